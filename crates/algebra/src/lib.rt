@@ -2,4 +2,4 @@
 #![tactic(auto)]
 
 /// The laws that contracts of this crate's callers rest on stand in `specs/` and `proofs/`.
-pub fn laws() {}
+pub fn promises() {}
