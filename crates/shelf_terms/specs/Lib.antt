@@ -1,0 +1,4 @@
+pub mod Blobs
+pub mod Counts
+pub mod Causes
+pub mod Puts
