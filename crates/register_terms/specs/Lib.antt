@@ -1,0 +1,2 @@
+pub mod Enrolment
+pub mod RegisterText
