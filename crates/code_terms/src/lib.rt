@@ -1,2 +1,11 @@
-//! In preparation.
+//! Words of a code and their messages: what a codeword's symbols are, which places of a word agree with a message,
+//! and which word a text spells.
 #![tactic(auto)]
+
+mod laws;
+mod message;
+mod word_fault;
+
+pub use laws::worked_examples;
+pub use message::Message;
+pub use word_fault::WordFault;

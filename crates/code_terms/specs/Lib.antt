@@ -1,0 +1,4 @@
+pub mod Product
+pub mod Symbols
+pub mod Words
+pub mod WordText

@@ -1,0 +1,24 @@
+//! What is proved of the definitions alone.
+
+ghost use Rattle.std.specs.Prelude.{◌≡◌, [], ◌∷◌, map, replicate, Option, Some, None, Ok, Err, codes};
+ghost use Rattle.code_terms.specs.Symbols.{symbol_of};
+ghost use Rattle.code_terms.specs.Words.{readable, places_of, agreement_of, codeword_of, three_colluders};
+ghost use Rattle.code_terms.specs.WordText.{word_of};
+
+use crate::word_fault::WordFault;
+
+/// The definitions at small values that were worked out apart from them, over symbols of 4 bits with two coefficients:
+/// a codeword; the word that three colluders, of the messages 0, 1 and 16, could make between them, and the places of
+/// each; and texts of words with their first faults.
+pub fn worked_examples()
+    ensures codeword { codeword_of 4 2 16 4 ≡ map Some (0 ∷ 1 ∷ 2 ∷ 3 ∷ []) }
+    ensures places_0 { places_of 4 2 0 three_colluders ≡ 0 ∷ 4 ∷ 5 ∷ 6 ∷ [] }
+    ensures places_1 { places_of 4 2 1 three_colluders ≡ 1 ∷ 7 ∷ 8 ∷ 9 ∷ [] }
+    ensures places_16 { places_of 4 2 16 three_colluders ≡ 0 ∷ 1 ∷ 2 ∷ 3 ∷ [] }
+    ensures text { word_of 4 (codes "0,1,2,3,0,0,0,1,1,1\n") ≡ Ok three_colluders }
+    ensures pair { word_of 4 (codes "5,5") ≡ Ok (Some 5 ∷ Some 5 ∷ []) }
+    ensures erasure { word_of 4 (codes "-") ≡ Ok (None ∷ []) }
+    ensures too_great { word_of 4 (codes "0,16,2") ≡ Err (WordFault.Token 1) }
+    ensures empty { word_of 4 [] ≡ Err (WordFault.Token 0) }
+    ensures too_long { word_of 4 (codes "0,0,0,0,0,0,0,0,0,0,0,0,0,0,0,0,0") ≡ Err WordFault.Long }
+{}
