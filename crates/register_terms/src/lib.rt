@@ -5,5 +5,7 @@
 #![tactic(auto)]
 
 mod fault;
+mod laws;
 
 pub use fault::{RegisterFault, RegisterKind};
+pub use laws::worked_examples;

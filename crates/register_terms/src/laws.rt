@@ -1,0 +1,17 @@
+//! The laws of registers and their texts: each is the contract of a function that does nothing.
+
+ghost use Rattle.std.specs.Prelude.{◌≡◌, List, [], ◌∷◌, ◌++◌, ℕ, codes, Ok, Err};
+ghost use Rattle.register_terms.specs.Enrolment.{Enrolment};
+ghost use Rattle.register_terms.specs.RegisterText.{register_text, register_of, fault};
+ghost use Rattle.register_terms.specs.declared.fault.RegisterKind.TheVariants.{Ending, Header, BadM, NameTaken};
+
+/// Small registers and small faults, worked out by the definitions.
+pub fn worked_examples()
+    ensures written { register_text (record { bits = 4; dimension = 2; multiplier = 1; shift = 0; names = [] }) ≡ codes "register 1\nm 4\nk 2\na 1\nb 0\n" }
+    ensures read { register_of (codes "register 1\nm 4\nk 2\na 1\nb 0\nlic0\nlic1\n") ≡ Ok (record { bits = 4; dimension = 2; multiplier = 1; shift = 0; names = codes "lic0" ∷ codes "lic1" ∷ [] }) }
+    ensures bad_bits { register_of (codes "register 1\nm 9\nk 2\na 1\nb 0\n") ≡ Err (fault 2 BadM) }
+    ensures taken { register_of (codes "register 1\nm 4\nk 2\na 1\nb 0\nlic0\nlic0\n") ≡ Err (fault 7 NameTaken) }
+    ensures cut_between { register_of (codes "register 1\nm 4\nk 2\n") ≡ Err (fault 4 Header) }
+    ensures cut_within { register_of (codes "register 1\nm 4\nk") ≡ Err (fault 3 Ending) }
+    ensures empty { register_of [] ≡ Err (fault 1 Header) }
+{}
