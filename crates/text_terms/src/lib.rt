@@ -1,5 +1,22 @@
 //! The spelling of numbers and the rules on names, as contracts cite them.
+//!
+//! The laws over these definitions are the contracts of functions with an empty body.
 #![tactic(auto)]
 
-/// The laws that contracts of this crate's callers rest on stand in `specs/` and `proofs/`.
-pub fn laws() {}
+ghost use Rattle.std.specs.Prelude.{◌≡◌, ◌≢◌, ◌<◌, ◌^◌, ℕ, List, true, Some, All};
+ghost use Rattle.std.specs.Fmt.{decimal};
+ghost use Rattle.text_terms.specs.Names.{is_name, is_plain};
+ghost use Rattle.text_terms.specs.Numbers.{number_of};
+
+/// Each number below 2^128 has exactly one spelling, the one that `{}` prints.
+pub fn spelling_is_unique()
+    ensures read { (n : ℕ) → n < 2 ^ 128 → number_of (decimal n) ≡ Some n }
+    ensures written { (text : List ℕ) (n : ℕ) → number_of text ≡ Some n → text ≡ decimal n }
+    ensures below { (text : List ℕ) (n : ℕ) → number_of text ≡ Some n → n < 2 ^ 128 }
+{}
+
+/// A plain name is a name too, and no name breaks a line.
+pub fn names_fit_lines()
+    ensures plain { (text : List ℕ) → is_plain text ≡ true → is_name text ≡ true }
+    ensures no_line_feed { (text : List ℕ) → is_name text ≡ true → All (λ b. b ≢ 10) text }
+{}

@@ -1,0 +1,5 @@
+use Rattle.text_terms.proofs.NameLaws.{plain_is_name, name_no_line_feed}
+use Rattle.text_terms.proofs.names_fit_lines.Goals as goal
+
+pub returns : goal.returns
+returns c = record { plain = plain_is_name; no_line_feed = name_no_line_feed }
