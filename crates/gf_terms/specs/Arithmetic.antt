@@ -26,3 +26,8 @@ reduction m =
 -- the product of the elements x and y of GF(2^m)
 unfoldable pub product : (m x y : ℕ) → ℕ
 product m x y = reduced m (m - 1) (reduction m) (carryless m x y)
+
+-- the power of x with the exponent i
+unfoldable pub power : (m x i : ℕ) → ℕ
+power m x zero = 1
+power m x (suc i) = product m x (power m x i)
