@@ -1,2 +1,14 @@
-//! In preparation.
+//! Registers of licensees: who is enrolled, and which message each licensee's copies carry.
+//!
+//! A register belongs to a code, and has a rule that gives each serial its message. It is kept as a text, which `read` and
+//! `write` tell one from another exactly. Its entries are seen by counted look-ups alone.
 #![tactic(auto)]
+
+mod errors;
+mod licensee;
+mod register;
+
+pub use errors::{EnrolError, RegisterError, RegisterReadError};
+pub use licensee::Licensee;
+pub use register::Register;
+pub use register_terms::{RegisterFault, RegisterKind};

@@ -1,0 +1,136 @@
+//! A register in memory.
+
+ghost use Rattle.std.specs.Prelude.{◌≡◌, ◌+◌, ◌*◌, ◌^◌, ◌≤◌, nat_lt, length, slice_get, IfOk, if◌then◌else◌};
+ghost use Rattle.std.specs.Option.{option_copied, option_map};
+ghost use Rattle.std.specs.Result.{result_err};
+ghost use Rattle.register_terms.specs.Enrolment.{serial_of, message_of, IsValid};
+ghost use Rattle.lic_register.specs.Answers.{refused_by, empty_register};
+
+use crate::errors::RegisterError;
+use crate::licensee::Licensee;
+use code_terms::Message;
+use std::alloc::Global;
+use std::collections::HashMap;
+use std::marker::Model;
+use steps::{Ledger, Steps};
+
+/// A register of licensees, which contracts see as the numbers of its code, the rule of its messages and the list of its
+/// names. The place of a name is the licensee's serial.
+///
+/// It keeps an index from names to serials, so no look-up walks over the licensees.
+#[derive(Drop)]
+pub struct Register {
+    alloc: Global,
+    bits: u32,
+    dimension: u32,
+    multiplier: u128,
+    shift: u128,
+    licensees: Vec<Licensee>,
+    serials: HashMap<String, u32>,
+}
+
+impl Model for Register {
+    ghost use Rattle.register_terms.specs.Enrolment.{Enrolment};
+
+    ghost Value = { Enrolment };
+
+    ghost use Rattle.lic_register.specs.Index.{names_of, IsKept};
+
+    ghost view = { λ r. record { bits = r.bits; dimension = r.dimension; multiplier = r.multiplier; shift = r.shift; names = names_of r.licensees.items } };
+
+    ghost invariant = { λ r. IsKept (record { bits = r.bits; dimension = r.dimension; multiplier = r.multiplier; shift = r.shift; names = names_of r.licensees.items }) r.serials };
+}
+
+impl Register {
+    /// A register without licensees, over codewords of `k` symbols of `m` bits, whose serial j has the message aj + b,
+    /// taken by the number of messages. It takes no memory.
+    pub fn new(alloc: Global, m: u32, k: u32, a: u128, b: u128) -> Result<Register, RegisterError>
+        ensures refused { result_err result ≡ refused_by m k a b }
+        ensures made { IfOk result (λ r. r ≡ empty_register m k a b) }
+    {
+        if !(4..=8).contains(&m) {
+            return Err(RegisterError::BadM);
+        }
+        if !(2..=13).contains(&k) {
+            return Err(RegisterError::BadK);
+        }
+        let messages = message_count(m, k);
+        if a % 2 == 0 || a >= messages {
+            return Err(RegisterError::BadMultiplier);
+        }
+        if b >= messages {
+            return Err(RegisterError::BadShift);
+        }
+        Ok(Register {
+            alloc,
+            bits: m,
+            dimension: k,
+            multiplier: a,
+            shift: b,
+            licensees: Vec::new(alloc),
+            serials: HashMap::new(alloc),
+        })
+    }
+
+    /// The bits of a symbol, 4 to 8.
+    pub fn bits(&self) -> u32
+        ensures { result ≡ self.now.bits }
+    {
+        self.bits
+    }
+
+    /// How many symbols a message has, 2 to 13.
+    pub fn dimension(&self) -> u32
+        ensures { result ≡ self.now.dimension }
+    {
+        self.dimension
+    }
+
+    /// The number of licensees.
+    pub fn len(&self) -> u32
+        ensures number { result ≡ length self.now.names }
+        ensures valid { IsValid self.now }
+    {
+        self.licensees.len() as u32
+    }
+
+    /// The licensee of this serial; `None` where nobody has it. This is one look.
+    pub fn entry<Q: Ledger>(&self, serial: u32, looks: &mut Steps<Q>) -> Option<&Licensee>
+        ensures found { option_map (λ x. x.name) (option_copied result) ≡ slice_get self.now.names serial }
+        ensures looks { looks.new ≡ looks.old + 1 }
+    {
+        looks.tick();
+        self.licensees.get(serial as usize)
+    }
+
+    /// The serial of the licensee with this name; `None` where nobody has it. This is one look.
+    pub fn serial_of<Q: Ledger>(&self, name: &str, looks: &mut Steps<Q>) -> Option<u32>
+        ensures found { result ≡ serial_of self.now.names name.now }
+        ensures looks { looks.new ≡ looks.old + 1 }
+    {
+        looks.tick();
+        self.serials.get(name).copied()
+    }
+
+    /// The message of this serial; `None` where nobody has the serial. This is one look.
+    pub fn message_of<Q: Ledger>(&self, serial: u32, looks: &mut Steps<Q>) -> Option<Message>
+        ensures found { result ≡ (if nat_lt serial (length self.now.names) then Some (message_of self.now serial) else None) }
+        ensures looks { looks.new ≡ looks.old + 1 }
+    {
+        looks.tick();
+        if serial >= self.licensees.len() as u32 {
+            return None;
+        }
+        let number = self.multiplier * u128::from(serial) + self.shift;
+        Some(Message::of(number % message_count(self.bits, self.dimension)))
+    }
+}
+
+/// How many messages of so many symbols of so many bits there are.
+fn message_count(bits: u32, dimension: u32) -> u128
+    requires bits { bits ≤ 8 }
+    requires dimension { dimension ≤ 13 }
+    ensures { result ≡ 2 ^ (bits * dimension) }
+{
+    1 << (bits * dimension)
+}
