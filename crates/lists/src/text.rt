@@ -3,7 +3,8 @@
 ghost use Rattle.std.specs.Prelude.{◌≡◌, length, IfOk};
 ghost use Rattle.std.specs.String.{string_bytes};
 
-use std::alloc::{AllocError, Global};
+use crate::memory::Memory;
+use std::alloc::Global;
 use std::marker::Model;
 
 /// A text, which contracts see as the list of its bytes in UTF-8.
@@ -30,7 +31,7 @@ impl Text {
     }
 
     /// A copy of this text. The only error is want of memory.
-    pub fn copy_of(alloc: Global, text: &str) -> Result<Text, AllocError>
+    pub fn of(alloc: Global, text: &str) -> Result<Text, Memory>
         ensures { IfOk result (λ t. t ≡ text.now) }
     {
         Ok(Text {

@@ -1,6 +1,9 @@
 //! The outside of the program: blobs under names, what is put out, and the small texts that pass between.
 #![tactic(auto)]
 
-mod memory;
+mod names;
+mod numbers;
 
-pub use memory::Memory;
+pub use lists::{Memory, Text};
+pub use names::{is_name, is_plain};
+pub use numbers::{number_text, read_number};

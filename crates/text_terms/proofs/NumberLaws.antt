@@ -13,7 +13,7 @@ use Rattle.std.proofs.lemmas.Str.Parse.{IsNumeralModel, digit_from_value, numera
 use Rattle.text_terms.specs.Numbers.{is_numeral, number_of}
 
 -- what a text of digits alone means to std
-texts : IsNumeralModel (λ ds. all_ascii_digits ds ≡ true) (digits_value 10)
+pub texts : IsNumeralModel (λ ds. all_ascii_digits ds ≡ true) (digits_value 10)
 texts = numerals_by_value _ tells_all_ascii_digits
 
 -- the code of a digit from its value
@@ -64,12 +64,12 @@ kept true v n is = (refl, cc)
 kept false v n is = cc
 
 -- a numeral's digits, of which there is one, and no zero in front but where it stands alone
-record HasNumeralForm (text : List ℕ) : Type 0 where
-  digits : AllDigits 10 text
-  some : 0 < length text
-  zero_alone : get_or text 0 0 ≡ 48 → length text ≡ 1
+pub record HasNumeralForm (text : List ℕ) : Type 0 where
+  pub digits : AllDigits 10 text
+  pub some : 0 < length text
+  pub zero_alone : get_or text 0 0 ≡ 48 → length text ≡ 1
 
-form_of : (text : List ℕ) → is_numeral text ≡ true → HasNumeralForm text
+pub form_of : (text : List ℕ) → is_numeral text ≡ true → HasNumeralForm text
 form_of text is =
     let parts = both (all_ascii_digits text) (nat_lt 0 (length text) && (not (get_or text 0 0 == 48) || length text == 1)) is in
     let rest = both (nat_lt 0 (length text)) (not (get_or text 0 0 == 48) || length text == 1) parts.1 in
