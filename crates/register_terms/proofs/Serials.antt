@@ -1,0 +1,94 @@
+-- The serial of a name: where it stands in the list, and what it is after one more name.
+use Rattle.std.proofs.Common.{◌≡◌, ◌≢◌, ℕ, ◌+◌, ◌<◌, ◌≤◌, Bool, true, false, cond, ltb, eqb, List, [], ◌∷◌, ◌++◌, length, get_or, Option, Some, None, refl, sym, ap, ◌∙◌, subst, arith, length-append, inl, inr}
+use Rattle.std.specs.List.{AllPairs, position, position_or_len}
+use Rattle.std.specs.Str.{bytes_eq}
+use Rattle.std.proofs.lemmas.Bool.{cases_Bool, cases_lt, ltb-false, lt-ltb, le-ltb, eq-eqb, ne_eqb, false_from_ne_true, cond-true, cond-false}
+use Rattle.std.proofs.lemmas.List.Sums.{prefix_len-le-length, position_or_len_is, fails_before_first}
+use Rattle.std.proofs.lemmas.List.Folds.{position_or_len_push}
+use Rattle.std.proofs.lemmas.List.Quantifiers.{position-Some}
+use Rattle.std.proofs.lemmas.Slice.Eq.{bytes_eq-Decides}
+use Rattle.register_terms.specs.Enrolment.{serial_of}
+
+pub same_bytes : (xs ys : List ℕ) → bytes_eq xs ys ≡ true → xs ≡ ys
+same_bytes xs ys is = (bytes_eq-Decides xs ys).0 is
+
+pub bytes_eq-own : (xs : List ℕ) → bytes_eq xs xs ≡ true
+bytes_eq-own xs = (bytes_eq-Decides xs xs).1 refl
+
+pub bytes_differ : (xs ys : List ℕ) → xs ≢ ys → bytes_eq xs ys ≡ false
+bytes_differ xs ys differ = false_from_ne_true (bytes_eq xs ys) (λ is. differ (same_bytes xs ys is))
+
+-- ---- a first place, of any test
+
+first-le : {X : Type 0} (p : X → Bool) (xs : List X) → position_or_len p xs ≤ length xs
+first-le p xs = prefix_len-le-length _ xs
+
+no_place : {X : Type 0} (p : X → Bool) (xs : List X) → position p xs ≡ None → position_or_len p xs ≡ length xs
+no_place p xs none =
+    elim (cases_Bool (ltb (position_or_len p xs) (length xs))) [
+      | inl is ↦ let found = cond-true (ltb (position_or_len p xs) (length xs)) (Some (position_or_len p xs)) None is in absurd (cc (found, none))
+      | inr is_not ↦ omega (arith, ltb-false (position_or_len p xs) (length xs) is_not, first-le p xs)
+    ]
+
+at_place : {X : Type 0} (p : X → Bool) (xs : List X) (i : ℕ) → i < length xs → position_or_len p xs ≡ i → position p xs ≡ Some i
+at_place p xs i lt is = rw (is, lt-ltb i (length xs) lt) refl
+
+past_places : {X : Type 0} (p : X → Bool) (xs : List X) → length xs ≤ position_or_len p xs → position p xs ≡ None
+past_places p xs le = cond-false (ltb (position_or_len p xs) (length xs)) (Some (position_or_len p xs)) None (le-ltb (position_or_len p xs) (length xs) le)
+
+-- one more element that fails
+kept : {X : Type 0} (p : X → Bool) (xs : List X) (y : X) → p y ≡ false → position p (xs ++ y ∷ []) ≡ position p xs
+kept p xs y is_not =
+    elim (cases_lt (position_or_len p xs) (length xs)) [
+      | inl lt ↦
+          let first : position_or_len p (xs ++ y ∷ []) ≡ position_or_len p xs = position_or_len_push p xs y ∙ rw (ne_eqb (position_or_len p xs) (length xs) (λ e. omega arith)) refl in
+          at_place p (xs ++ y ∷ []) (position_or_len p xs) (omega (arith, length-append xs (y ∷ []))) first ∙ sym (at_place p xs (position_or_len p xs) lt refl)
+      | inr le ↦
+          let all : position_or_len p xs ≡ length xs = omega (arith, first-le p xs) in
+          let first : position_or_len p (xs ++ y ∷ []) ≡ length xs + 1 = position_or_len_push p xs y ∙ rw (eq-eqb (position_or_len p xs) (length xs) all, is_not) refl in
+          past_places p (xs ++ y ∷ []) (omega (arith, length-append xs (y ∷ []))) ∙ sym (past_places p xs le)
+    ]
+
+-- one more element
+position_push : {X : Type 0} (p : X → Bool) (xs : List X) (y : X) → (p y ≡ true → position p xs ≡ None) → position p (xs ++ y ∷ []) ≡ cond (p y) (Some (length xs)) (position p xs)
+position_push p xs y new =
+    elim (cases_Bool (p y)) [
+      | inl is ↦
+          let all = no_place p xs (new is) in
+          let first : position_or_len p (xs ++ y ∷ []) ≡ length xs = position_or_len_push p xs y ∙ rw (eq-eqb (position_or_len p xs) (length xs) all, is) (omega arith) in
+          at_place p (xs ++ y ∷ []) (length xs) (omega (arith, length-append xs (y ∷ []))) first ∙ sym (cond-true (p y) (Some (length xs)) (position p xs) is)
+      | inr is_not ↦ kept p xs y is_not ∙ sym (cond-false (p y) (Some (length xs)) (position p xs) is_not)
+    ]
+
+-- ---- the serial of a name
+
+-- no licensee has a name without a serial
+pub absent_differs : (names : List (List ℕ)) (name : List ℕ) → serial_of names name ≡ None → (k : ℕ) (d : List ℕ) → k < length names → get_or names k d ≢ name
+absent_differs names name none k d lt =
+    λ e.
+    let all = no_place (bytes_eq name) names none in
+    let no : bytes_eq name (get_or names k d) ≡ false = fails_before_first (bytes_eq name) names k d (omega arith) in
+    let yes : bytes_eq name (get_or names k d) ≡ true = (bytes_eq-Decides name (get_or names k d)).1 (sym e) in
+    cc
+
+pub differs_absent : (names : List (List ℕ)) (name : List ℕ) → ((k : ℕ) → k < length names → get_or names k [] ≢ name) → serial_of names name ≡ None
+differs_absent names name differ =
+    let all : position_or_len (bytes_eq name) names ≡ length names = position_or_len_is (bytes_eq name) names (length names) [] (omega arith) (λ k lt. bytes_differ name (get_or names k []) (λ e. differ k lt (sym e))) (λ lt. absurd (omega arith)) in
+    past_places (bytes_eq name) names (omega arith)
+
+-- the licensee of the serial has the name
+pub has_serial : (names : List (List ℕ)) (name : List ℕ) (serial : ℕ) → serial_of names name ≡ Some serial → (serial < length names) × (get_or names serial [] ≡ name)
+has_serial names name serial found =
+    let at = position-Some (bytes_eq name) names serial [] found in
+    (at.0, sym (same_bytes name (get_or names serial []) at.1))
+
+-- where the names differ, each licensee's name has the licensee's serial
+pub own_serial : (names : List (List ℕ)) (serial : ℕ) → AllPairs (λ x y. x ≢ y) names → serial < length names → serial_of names (get_or names serial []) ≡ Some serial
+own_serial names serial distinct lt =
+    let name = get_or names serial [] in
+    let first : position_or_len (bytes_eq name) names ≡ serial = position_or_len_is (bytes_eq name) names serial [] (omega arith) (λ k below. bytes_differ name (get_or names k []) (λ e. distinct k serial [] below lt (sym e))) (λ _. bytes_eq-own name) in
+    at_place (bytes_eq name) names serial lt first
+
+-- a new name that is added last has the next serial, and every other text has what it had
+pub serial_of-push : (names : List (List ℕ)) (name text : List ℕ) → serial_of names name ≡ None → serial_of (names ++ name ∷ []) text ≡ cond (bytes_eq text name) (Some (length names)) (serial_of names text)
+serial_of-push names name text none = position_push (bytes_eq text) names name (λ same. ap (serial_of names) (same_bytes text name same) ∙ none)
