@@ -1,2 +1,8 @@
-//! In preparation.
+//! What the program promises for each list of words: commands, statuses, error lines and the outcome over blobs.
 #![tactic(auto)]
+
+mod refusal;
+mod status;
+
+pub use refusal::Refusal;
+pub use status::Status;
