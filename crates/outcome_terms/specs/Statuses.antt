@@ -1,13 +1,11 @@
 -- The numbers of the statuses, and the error line of each refusal. This project's own.
 use Rattle.std.specs.Prelude.{ℕ, List, [], ◌∷◌, ◌++◌, codes}
 use Rattle.std.specs.Fmt.{decimal}
-use Rattle.code_terms.specs.declared.WordFault.{WordFault}
-use Rattle.code_terms.specs.declared.WordFault.TheVariants as word
-use Rattle.register_terms.specs.declared.RegisterFault.{RegisterFault}
-use Rattle.register_terms.specs.declared.RegisterKind.{RegisterKind}
-use Rattle.register_terms.specs.declared.RegisterKind.TheVariants as kind
-use Rattle.register_terms.specs.declared.RegisterError.{RegisterError}
-use Rattle.register_terms.specs.declared.RegisterError.TheVariants as parameters
+use Rattle.code_terms.specs.declared.word_fault.WordFault.{WordFault}
+use Rattle.code_terms.specs.declared.word_fault.WordFault.TheVariants as word
+use Rattle.register_terms.specs.declared.fault.RegisterFault.{RegisterFault}
+use Rattle.register_terms.specs.declared.fault.RegisterKind.{RegisterKind}
+use Rattle.register_terms.specs.declared.fault.RegisterKind.TheVariants as kind
 use Rattle.outcome_terms.specs.declared.status.Status.{Status}
 use Rattle.outcome_terms.specs.declared.status.Status.TheVariants as status
 use Rattle.outcome_terms.specs.declared.refusal.Refusal.{Refusal}
@@ -50,7 +48,7 @@ refusal_status (refusal.SameName _) = status.SameName
 refusal_status (refusal.BadWord _) = status.BadWord
 refusal_status (refusal.BadParameters _) = status.BadParameters
 
--- how a line breaks the form of a register
+-- how a line breaks the form of a register, or which of its rules its numbers break
 abbrev pub kind_text : RegisterKind → List ℕ
 kind_text kind.Ending = codes "ending"
 kind_text kind.Header = codes "header"
@@ -61,13 +59,6 @@ kind_text kind.BadShift = codes "bad-shift"
 kind_text kind.BadName = codes "bad-name"
 kind_text kind.NameTaken = codes "name-taken"
 kind_text kind.Full = codes "full"
-
--- which rule the numbers of a register break
-abbrev pub parameters_text : RegisterError → List ℕ
-parameters_text parameters.BadM = codes "bad-m"
-parameters_text parameters.BadK = codes "bad-k"
-parameters_text parameters.BadMultiplier = codes "bad-multiplier"
-parameters_text parameters.BadShift = codes "bad-shift"
 
 -- how a blob breaks the form of a word
 abbrev pub word_fault_text : WordFault → List ℕ
@@ -90,7 +81,7 @@ refusal_detail refusal.BadName = codes "name"
 refusal_detail (refusal.Full licensees) = decimal licensees
 refusal_detail (refusal.SameName name) = name
 refusal_detail (refusal.BadWord fault) = word_fault_text fault
-refusal_detail (refusal.BadParameters rule) = parameters_text rule
+refusal_detail (refusal.BadParameters rule) = kind_text rule
 
 -- `error`, the status's number and a detail, with spaces between, and a line feed
 unfoldable pub line_of : Status → List ℕ → List ℕ

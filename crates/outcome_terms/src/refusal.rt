@@ -2,7 +2,7 @@
 
 use code_terms::WordFault;
 use lists::Text;
-use register_terms::{RegisterError, RegisterFault};
+use register_terms::{RegisterFault, RegisterKind};
 
 /// A refusal of a command before anything was put out, with the detail of its error line.
 #[derive(Debug, Drop)]
@@ -41,5 +41,5 @@ pub enum Refusal {
     /// The blob is no word: the first token that breaks the form, or too many.
     BadWord(WordFault),
     /// The numbers make no register: the first rule that they break.
-    BadParameters(RegisterError),
+    BadParameters(RegisterKind),
 }

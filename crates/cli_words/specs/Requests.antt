@@ -1,0 +1,9 @@
+-- What a command asks for, apart from where its words lie.
+use Rattle.cli_words.specs.declared.command.Command.{Command}
+use Rattle.cli_words.specs.declared.command.Command.TheVariants as command
+use Rattle.outcome_terms.specs.Commands.{Request, Make, Enrol, Accuse}
+
+abbrev pub request : Command → Request
+request (command.Register m k a b out) = Make m k a b out.now
+request (command.Enrol reg name out) = Enrol reg.now name.now out.now
+request (command.Accuse reg word c) = Accuse reg.now word.now c
