@@ -9,7 +9,6 @@ use Rattle.code_terms.specs.declared.word_fault.WordFault.{WordFault}
 use Rattle.code_terms.specs.Words.{readable}
 use Rattle.code_terms.specs.WordText.{word_of}
 use Rattle.register_terms.specs.declared.fault.RegisterFault.{RegisterFault}
-use Rattle.register_terms.specs.declared.fault.RegisterKind.{RegisterKind}
 use Rattle.register_terms.specs.declared.fault.RegisterKind.TheVariants as kind
 use Rattle.register_terms.specs.Enrolment.{Enrolment, capacity, serial_of}
 use Rattle.register_terms.specs.RegisterText.{register_text, register_of, with_name, are_bits, is_dimension, is_multiplier, is_shift}

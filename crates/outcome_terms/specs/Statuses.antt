@@ -1,9 +1,8 @@
 -- The numbers of the statuses, and the error line of each refusal. This project's own.
-use Rattle.std.specs.Prelude.{ℕ, List, [], ◌∷◌, ◌++◌, codes}
+use Rattle.std.specs.Prelude.{ℕ, List, ◌++◌, codes}
 use Rattle.std.specs.Fmt.{decimal}
 use Rattle.code_terms.specs.declared.word_fault.WordFault.{WordFault}
 use Rattle.code_terms.specs.declared.word_fault.WordFault.TheVariants as word
-use Rattle.register_terms.specs.declared.fault.RegisterFault.{RegisterFault}
 use Rattle.register_terms.specs.declared.fault.RegisterKind.{RegisterKind}
 use Rattle.register_terms.specs.declared.fault.RegisterKind.TheVariants as kind
 use Rattle.outcome_terms.specs.declared.status.Status.{Status}
