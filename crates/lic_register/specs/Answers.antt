@@ -1,5 +1,5 @@
 -- Which answer each call gives. Want of memory is the one answer that is always free.
-use Rattle.std.specs.Prelude.{◌≡◌, ℕ, ◌^◌, ◌*◌, not, nat_lt, List, [], length, Option, Some, None, Result, Ok, Err, if◌then◌else◌}
+use Rattle.std.specs.Prelude.{◌≡◌, ℕ, not, nat_lt, List, [], length, Option, Some, None, Result, Ok, Err, if◌then◌else◌}
 use Rattle.text_terms.specs.Names.{is_plain}
 use Rattle.register_terms.specs.declared.fault.RegisterFault.{RegisterFault}
 use Rattle.register_terms.specs.Enrolment.{Enrolment, capacity, serial_of}

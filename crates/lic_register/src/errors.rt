@@ -4,6 +4,7 @@ ghost use Rattle.std.specs.Prelude.{◌≡◌};
 ghost use Rattle.lic_register.specs.declared.errors.EnrolError.TheVariants as enrol_errors;
 ghost use Rattle.lic_register.specs.declared.errors.RegisterReadError.TheVariants as read_errors;
 
+use lists::Memory;
 use register_terms::RegisterFault;
 use std::alloc::{AllocError, AllocFailed};
 
@@ -37,6 +38,14 @@ impl From<AllocError> for EnrolError {
     ghost from_gives = { λ _ e. e ≡ enrol_errors.Memory };
 
     fn from(_error: AllocError) -> EnrolError {
+        EnrolError::Memory
+    }
+}
+
+impl From<Memory> for EnrolError {
+    ghost from_gives = { λ _ e. e ≡ enrol_errors.Memory };
+
+    fn from(_error: Memory) -> EnrolError {
         EnrolError::Memory
     }
 }

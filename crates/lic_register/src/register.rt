@@ -1,18 +1,25 @@
 //! A register in memory.
 
-ghost use Rattle.std.specs.Prelude.{◌≡◌, ◌+◌, ◌*◌, ◌^◌, ◌≤◌, nat_lt, length, slice_get, IfOk, if◌then◌else◌};
+ghost use Rattle.std.specs.Prelude.{◌≡◌, ◌+◌, ◌*◌, ◌^◌, ◌≤◌, nat_lt, length, min, slice_get, IfOk, IfErr, OnOk, OnErr, if◌then◌else◌};
 ghost use Rattle.std.specs.Option.{option_copied, option_map};
 ghost use Rattle.std.specs.Result.{result_err};
 ghost use Rattle.register_terms.specs.Enrolment.{serial_of, message_of, IsValid};
-ghost use Rattle.lic_register.specs.Answers.{refused_by, empty_register};
+ghost use Rattle.register_terms.specs.RegisterText.{refusal_of, with_name};
+ghost use Rattle.lic_register.specs.Answers.{refused_by, empty_register, enrolment_of, EnrolsAs};
+ghost use Rattle.lic_register.specs.declared.errors.EnrolError.TheVariants as enrol_errors;
 
-use crate::errors::RegisterError;
+use crate::errors::{EnrolError, RegisterError};
 use crate::licensee::Licensee;
 use code_terms::Message;
+use lists::Text;
+use shelf_io::is_plain;
 use std::alloc::Global;
 use std::collections::HashMap;
 use std::marker::Model;
 use steps::{Ledger, Steps};
+
+/// No register holds more licensees.
+const MOST_LICENSEES: u128 = 200_000;
 
 /// A register of licensees, which contracts see as the numbers of its code, the rule of its messages and the list of its
 /// names. The place of a name is the licensee's serial.
@@ -124,6 +131,56 @@ impl Register {
         let number = self.multiplier * u128::from(serial) + self.shift;
         Some(Message::of(number % message_count(self.bits, self.dimension)))
     }
+}
+
+impl Register {
+    /// Enrols a plain name, and answers its serial, which is the number of licensees before. A refused name leaves the
+    /// register as it was.
+    pub fn enrol(&mut self, name: &str) -> Result<u32, EnrolError>
+        ensures answer { EnrolsAs result (enrolment_of self.old name.now) }
+        ensures enrolled { OnOk result (self.new ≡ with_name self.old name.now) }
+        ensures refused { OnErr result (self.new ≡ self.old) }
+    {
+        if !is_plain(name) {
+            return Err(EnrolError::BadName);
+        }
+        if let Some(serial) = self.serials.get(name) {
+            return Err(EnrolError::NameTaken(*serial));
+        }
+        let serial = self.licensees.len() as u32;
+        if serial >= capacity(self.bits, self.dimension) {
+            return Err(EnrolError::Full(serial));
+        }
+        self.add(name)?;
+        Ok(serial)
+    }
+
+    /// Adds a name that is not refused as the last one. Where memory is wanting, nothing changes.
+    fn add(&mut self, name: &str) -> Result<(), EnrolError>
+        requires { refusal_of self.old name.now ≡ None }
+        ensures added { OnOk result (self.new ≡ with_name self.old name.now) }
+        ensures memory { IfErr result (λ e. e ≡ enrol_errors.Memory) }
+        ensures kept { OnErr result (self.new ≡ self.old) }
+    {
+        let serial = self.licensees.len() as u32;
+        let licensee = Licensee {
+            name: Text::of(self.alloc, name)?,
+        };
+        let key = String::from_str(self.alloc, name)?;
+        self.licensees.reserve(1)?;
+        self.serials.insert(key, serial)?;
+        self.licensees.push(licensee).unwrap();
+        Ok(())
+    }
+}
+
+/// How many licensees a register of such a code can hold.
+fn capacity(bits: u32, dimension: u32) -> u32
+    requires bits { bits ≤ 8 }
+    requires dimension { dimension ≤ 13 }
+    ensures { result ≡ min (2 ^ (bits * dimension)) 200000 }
+{
+    message_count(bits, dimension).min(MOST_LICENSEES) as u32
 }
 
 /// How many messages of so many symbols of so many bits there are.

@@ -1,2 +1,3 @@
 pub mod Serials
 pub mod Growing
+pub mod Lines

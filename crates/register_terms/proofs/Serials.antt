@@ -1,8 +1,9 @@
 -- The serial of a name: where it stands in the list, and what it is after one more name.
-use Rattle.std.proofs.Common.{◌≡◌, ◌≢◌, ℕ, ◌+◌, ◌<◌, ◌≤◌, Bool, true, false, cond, ltb, eqb, List, [], ◌∷◌, ◌++◌, length, get_or, Option, Some, None, refl, sym, ap, ◌∙◌, subst, arith, length-append, inl, inr}
+use Rattle.std.proofs.Common.{◌≡◌, ◌≢◌, ℕ, ◌+◌, ◌<◌, ◌≤◌, Bool, true, false, cond, ltb, List, [], ◌∷◌, ◌++◌, length, get_or, Some, None, refl, sym, ap, ◌∙◌, arith, length-append, inl, inr}
 use Rattle.std.specs.List.{AllPairs, position, position_or_len}
 use Rattle.std.specs.Str.{bytes_eq}
 use Rattle.std.proofs.lemmas.Bool.{cases_Bool, cases_lt, ltb-false, lt-ltb, le-ltb, eq-eqb, ne_eqb, false_from_ne_true, cond-true, cond-false}
+use Rattle.std.proofs.lemmas.Bool.Decides.{same_from_decides}
 use Rattle.std.proofs.lemmas.List.Sums.{prefix_len-le-length, position_or_len_is, fails_before_first}
 use Rattle.std.proofs.lemmas.List.Folds.{position_or_len_push}
 use Rattle.std.proofs.lemmas.List.Quantifiers.{position-Some}
@@ -89,6 +90,12 @@ own_serial names serial distinct lt =
     let first : position_or_len (bytes_eq name) names ≡ serial = position_or_len_is (bytes_eq name) names serial [] (omega arith) (λ k below. bytes_differ name (get_or names k []) (λ e. distinct k serial [] below lt (sym e))) (λ _. bytes_eq-own name) in
     at_place (bytes_eq name) names serial lt first
 
+bytes_eq-sym : (xs ys : List ℕ) → bytes_eq xs ys ≡ bytes_eq ys xs
+bytes_eq-sym xs ys =
+    let there = bytes_eq-Decides ys xs in
+    same_from_decides (bytes_eq xs ys) (bytes_eq ys xs) (bytes_eq-Decides xs ys) ((λ is. sym (there.0 is)), (λ same. there.1 (sym same)))
+
 -- a new name that is added last has the next serial, and every other text has what it had
-pub serial_of-push : (names : List (List ℕ)) (name text : List ℕ) → serial_of names name ≡ None → serial_of (names ++ name ∷ []) text ≡ cond (bytes_eq text name) (Some (length names)) (serial_of names text)
-serial_of-push names name text none = position_push (bytes_eq text) names name (λ same. ap (serial_of names) (same_bytes text name same) ∙ none)
+pub serial_of-push : (names : List (List ℕ)) (name text : List ℕ) → serial_of names name ≡ None → serial_of (names ++ name ∷ []) text ≡ cond (bytes_eq name text) (Some (length names)) (serial_of names text)
+serial_of-push names name text none =
+    position_push (bytes_eq text) names name (λ same. ap (serial_of names) (same_bytes text name same) ∙ none) ∙ ap (λ (same : Bool). cond same (Some (length names)) (serial_of names text)) (bytes_eq-sym text name)

@@ -56,12 +56,16 @@ line_at number (text ∷ next ∷ parts) = Ok (text, next ∷ parts)
 abbrev pub number_after : List ℕ → List ℕ → Option ℕ
 number_after word text = if bytes_eq word (take (length word) text) then number_of (drop (length word) text) else None
 
--- a line that is a word and a number, of which only some are allowed
-abbrev pub number_line_at : ℕ → List ℕ → (ℕ → Bool) → RegisterKind → List (List ℕ) → Result (ℕ × List (List ℕ)) RegisterFault
-number_line_at number word allowed kind parts = do
+-- a line that is a word and a number
+abbrev pub number_line_at : ℕ → List ℕ → List (List ℕ) → Result (ℕ × List (List ℕ)) RegisterFault
+number_line_at number word parts = do
   first ← line_at number parts
   n ← ok_or (number_after word first.0) (fault number Header)
-  if allowed n then Ok (n, first.1) else Err (fault number kind)
+  Ok (n, first.1)
+
+-- the number that was found, where it is allowed
+abbrev pub within : (ℕ → Bool) → RegisterFault → ℕ × List (List ℕ) → Result (ℕ × List (List ℕ)) RegisterFault
+within allowed refusal found = if allowed found.0 then Ok found else Err refusal
 
 -- the first line, which names the form
 abbrev pub form_line_at : List (List ℕ) → Result (List (List ℕ)) RegisterFault
@@ -85,10 +89,10 @@ is_shift m k b = nat_lt b (2 ^ (m * k))
 unfoldable pub header_at : List (List ℕ) → Result (Enrolment × List (List ℕ)) RegisterFault
 header_at parts = do
   form ← form_line_at parts
-  m ← number_line_at 2 (codes "m ") are_bits BadM form
-  k ← number_line_at 3 (codes "k ") is_dimension BadK m.1
-  a ← number_line_at 4 (codes "a ") (is_multiplier m.0 k.0) BadMultiplier k.1
-  b ← number_line_at 5 (codes "b ") (is_shift m.0 k.0) BadShift a.1
+  m ← number_line_at 2 (codes "m ") form >>= within are_bits (fault 2 BadM)
+  k ← number_line_at 3 (codes "k ") m.1 >>= within is_dimension (fault 3 BadK)
+  a ← number_line_at 4 (codes "a ") k.1 >>= within (is_multiplier m.0 k.0) (fault 4 BadMultiplier)
+  b ← number_line_at 5 (codes "b ") a.1 >>= within (is_shift m.0 k.0) (fault 5 BadShift)
   Ok (record { bits = m.0; dimension = k.0; multiplier = a.0; shift = b.0; names = [] }, b.1)
 
 -- the register with one more licensee, added last

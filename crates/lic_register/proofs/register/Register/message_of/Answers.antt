@@ -1,4 +1,4 @@
-use Rattle.std.proofs.Common.{ap, ◌∙◌, sym, length, arith}
+use Rattle.std.proofs.Common.{arith}
 use Rattle.std.proofs.lemmas.List.{length-map}
 use Rattle.lic_register.proofs.Sizes.{message_count-le, product-le}
 use Rattle.lic_register.proofs.register.Register.message_of.Goals as goal
