@@ -29,7 +29,7 @@ unfoldable pub each_below : ℕ → (ℕ → Bool) → Bool
 each_below zero f = true
 each_below (suc n) f = each_below n f && f n
 
-both : (a b : Bool) → (a && b) ≡ true → (a ≡ true) × (b ≡ true)
+pub both : (a b : Bool) → (a && b) ≡ true → (a ≡ true) × (b ≡ true)
 both true b h = (refl, h)
 both false b h = cc
 

@@ -1,5 +1,5 @@
 -- The numbers below 2^m are a field under exclusive or and product, for m = 4 to 8, and the powers of 2 are all of them but 0.
-use Rattle.std.proofs.Common.{◌≡◌, ◌⊎◌, inl, inr, ℕ, zero, suc, ◌+◌, ◌-◌, ◌^◌, ◌<◌, ◌≤◌, ◌==◌, ◌||◌, Bool, true, false, List, [], ◌∷◌, refl, sym, ◌∙◌, ap, ap₂, subst, arith}
+use Rattle.std.proofs.Common.{◌≡◌, ◌≢◌, ◌⊎◌, inl, inr, ℕ, zero, suc, ◌+◌, ◌-◌, ◌^◌, ◌<◌, ◌≤◌, ◌==◌, ◌||◌, Bool, true, false, List, [], ◌∷◌, refl, sym, ◌∙◌, ap, ap₂, subst, arith}
 use Rattle.std.specs.Prelude.{bit_xor, nat_lt}
 use Rattle.std.proofs.lemmas.Bool.{eqb-true, ltb-true}
 use Rattle.std.proofs.lemmas.Nat.{pow_pos, pow_below}
@@ -62,6 +62,9 @@ at_two n f g h i j a b = at_one n (f i) (g i) (at_below n (λ i. each_below n (�
 at_three : (n : ℕ) (f g : ℕ → ℕ → ℕ → ℕ) → each_below n (λ i. each_below n (λ j. each_below n (λ k. f i j k == g i j k))) ≡ true
     → (i j k : ℕ) → i < n → j < n → k < n → f i j k ≡ g i j k
 at_three n f g h i j k a b c = at_two n (f i) (g i) (at_below n (λ i. each_below n (λ j. each_below n (λ k. f i j k == g i j k))) h i a) j k b c
+
+pub one_is_not_zero : ◌≢◌ {A = ℕ} 1 0
+one_is_not_zero h = cc
 
 -- ---- what follows for all numbers below 2^m
 
@@ -128,10 +131,13 @@ module _ (m : ℕ) (low : 4 ≤ m) (high : m ≤ 8) where
 
   -- ---- the powers of 2
 
-  one_below : 1 < 2 ^ m
+  pub zero_below : 0 < 2 ^ m
+  zero_below = pow_pos m
+
+  pub one_below : 1 < 2 ^ m
   one_below = omega (arith, pow_below 0 m (omega arith))
 
-  two_below : 2 < 2 ^ m
+  pub two_below : 2 < 2 ^ m
   two_below = omega (arith, pow_below 1 m (omega arith))
 
   pub power_below : (x i : ℕ) → x < 2 ^ m → power m x i < 2 ^ m

@@ -1,0 +1,14 @@
+-- What a table of powers and one of logarithms hold.
+use Rattle.std.specs.Prelude.{◌≡◌, ℕ, ◌*◌, ◌-◌, ◌^◌, ◌<◌, List, length, slice_index}
+use Rattle.gf_terms.specs.Arithmetic.{power}
+
+-- the powers of 2 in GF(2^m), twice round
+pub record ArePowers (m : ℕ) (table : List ℕ) : Type 0 where
+  pub whole : length table ≡ 2 * (2 ^ m - 1)
+  pub each : (i : ℕ) → i < 2 * (2 ^ m - 1) → slice_index table i ≡ power m 2 i
+
+-- at x, the exponent with which 2 gives x in GF(2^m)
+pub record AreLogarithms (m : ℕ) (table : List ℕ) : Type 0 where
+  pub whole : length table ≡ 2 ^ m
+  pub below : (x : ℕ) → 0 < x → x < 2 ^ m → slice_index table x < 2 ^ m - 1
+  pub each : (x : ℕ) → 0 < x → x < 2 ^ m → power m 2 (slice_index table x) ≡ x
