@@ -1,9 +1,17 @@
 //! The outside of the program: blobs under names, what is put out, and the small texts that pass between.
 #![tactic(auto)]
 
+mod errors;
 mod names;
 mod numbers;
+mod shelf;
+mod sink;
+mod whole;
 
+pub use errors::{FetchError, ShelfError, SinkError};
 pub use lists::{Memory, Text};
 pub use names::{is_name, is_plain};
 pub use numbers::{number_text, read_number};
+pub use shelf::Shelf;
+pub use sink::Sink;
+pub use whole::fetch;
