@@ -1,6 +1,6 @@
 -- What a command asks for, apart from where its words lie.
-use Rattle.cli_words.specs.declared.command.Command.{Command}
-use Rattle.cli_words.specs.declared.command.Command.TheVariants as command
+use Rattle.cli_words.specs.declared.commands.Command.{Command}
+use Rattle.cli_words.specs.declared.commands.Command.TheVariants as command
 use Rattle.outcome_terms.specs.Commands.{Request, Make, Enrol, Accuse}
 
 abbrev pub request : Command → Request

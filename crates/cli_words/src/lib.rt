@@ -1,9 +1,9 @@
 //! The words of the command line, the statuses and the error lines.
 #![tactic(auto)]
 
-mod command;
-mod error_line;
+mod commands;
+mod errors;
 
-pub use command::{Command, read_words};
-pub use error_line::error_line;
+pub use commands::{Command, read_words};
+pub use errors::error_line;
 pub use outcome_terms::Status;

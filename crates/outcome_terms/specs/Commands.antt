@@ -1,7 +1,7 @@
--- Which lists of words are commands. This project's own.
+-- Which lists of words are commands. This project's own. A word that is a number is spelled as numbers are, and may be too
+-- large for the rule that it is tested by later; every other word after the command has the form of a blob's name.
 use Rattle.std.specs.Prelude.{ℕ, List, [], ◌∷◌, ◌&&◌, Option, Some, None, codes, if◌then◌else◌}
 use Rattle.std.specs.Str.{bytes_eq}
-use Rattle.std.specs.Option.{option_map}
 use Rattle.text_terms.specs.Numbers.{number_of}
 use Rattle.text_terms.specs.Names.{is_name}
 
@@ -14,23 +14,47 @@ pub data Request : Type 0 where
   -- report who agrees with the word, for coalitions of at most c
   Accuse : (register word : List ℕ) (c : ℕ) → Request
 
--- `register M K A B OUT`: four numbers and a blob's name
+-- the first part that is none makes the whole none
+infixl 10 ◌>>=◌
+abbrev pub ◌>>=◌ : {A B : Type 0} → Option A → (A → Option B) → Option B
+None >>= f = None
+(Some x) >>= f = f x
+
+-- a word of the form of a blob's name
+abbrev pub named : List ℕ → Option (List ℕ)
+named word = if is_name word then Some word else None
+
+-- `M K A B OUT`: four numbers and a blob's name
+unfoldable pub make_from : (m_word k_word a_word b_word out_word : List ℕ) → Option Request
+make_from m_word k_word a_word b_word out_word = do
+  m ← number_of m_word
+  k ← number_of k_word
+  a ← number_of a_word
+  b ← number_of b_word
+  out ← named out_word
+  Some (Make m k a b out)
+
+-- `register M K A B OUT`
 unfoldable pub make_of : List (List ℕ) → Option Request
-make_of (m ∷ k ∷ a ∷ b ∷ out ∷ []) = numbers_then (number_of m) (number_of k) (number_of a) (number_of b) out
-  where
-    numbers_then : Option ℕ → Option ℕ → Option ℕ → Option ℕ → List ℕ → Option Request
-    numbers_then (Some m) (Some k) (Some a) (Some b) out = if is_name out then Some (Make m k a b out) else None
-    numbers_then _ _ _ _ _ = None
+make_of (m_word ∷ k_word ∷ a_word ∷ b_word ∷ out_word ∷ []) = make_from m_word k_word a_word b_word out_word
 make_of _ = None
 
--- `enrol REG NAME OUT`: three texts, each of the form of a blob's name
+-- `enrol REG NAME OUT`: three words, each of the form of a blob's name
 unfoldable pub enrol_of : List (List ℕ) → Option Request
-enrol_of (register ∷ name ∷ out ∷ []) = if is_name register && (is_name name && is_name out) then Some (Enrol register name out) else None
+enrol_of (register_word ∷ name_word ∷ out_word ∷ []) = do
+  register ← named register_word
+  name ← named name_word
+  out ← named out_word
+  Some (Enrol register name out)
 enrol_of _ = None
 
 -- `accuse REG WORD C`: two blobs' names and a number
 unfoldable pub accuse_of : List (List ℕ) → Option Request
-accuse_of (register ∷ word ∷ c ∷ []) = if is_name register && is_name word then option_map (λ n. Accuse register word n) (number_of c) else None
+accuse_of (register_word ∷ word_word ∷ c_word ∷ []) = do
+  register ← named register_word
+  word ← named word_word
+  c ← number_of c_word
+  Some (Accuse register word c)
 accuse_of _ = None
 
 -- the command that the words are; every other list of words is none

@@ -72,9 +72,9 @@ refusal_detail (refusal.Missing name) = name
 refusal_detail (refusal.ReadFault name) = name
 refusal_detail (refusal.WriteFault name) = name
 refusal_detail (refusal.TooLong name) = name
-refusal_detail (refusal.BadRegister fault) = decimal fault.line ++ codes " " ++ kind_text fault.kind
+refusal_detail (refusal.BadRegister fault) = decimal fault.line ++ (codes " " ++ kind_text fault.kind)
 refusal_detail (refusal.BadBound bound) = decimal bound
-refusal_detail (refusal.TooFew readable needed) = decimal readable ++ codes " " ++ decimal needed
+refusal_detail (refusal.TooFew readable needed) = decimal readable ++ (codes " " ++ decimal needed)
 refusal_detail (refusal.NameTaken serial) = decimal serial
 refusal_detail refusal.BadName = codes "name"
 refusal_detail (refusal.Full licensees) = decimal licensees
@@ -84,7 +84,7 @@ refusal_detail (refusal.BadParameters rule) = kind_text rule
 
 -- `error`, the status's number and a detail, with spaces between, and a line feed
 unfoldable pub line_of : Status → List ℕ → List ℕ
-line_of s detail = codes "error " ++ decimal (status_code s) ++ codes " " ++ detail ++ codes "\n"
+line_of s detail = codes "error " ++ (decimal (status_code s) ++ (codes " " ++ (detail ++ codes "\n")))
 
 -- the error line of a refusal
 abbrev pub error_text : Refusal → List ℕ

@@ -3,7 +3,9 @@
 ghost use Rattle.std.specs.Prelude.{◌≡◌, map};
 ghost use Rattle.std.specs.Option.{option_map};
 ghost use Rattle.std.specs.String.{string_bytes};
-ghost use Rattle.outcome_terms.specs.Commands.{request_of, make_of, enrol_of, accuse_of};
+ghost use Rattle.std.specs.Str.{bytes_eq};
+ghost use Rattle.text_terms.specs.Numbers.{number_of};
+ghost use Rattle.outcome_terms.specs.Commands.{named as blob_name, request_of, make_from, make_of, enrol_of, accuse_of};
 ghost use Rattle.cli_words.specs.Requests.{request};
 
 use shelf_io::{is_name, read_number};
@@ -47,16 +49,40 @@ pub enum Command<'a> {
 }
 
 /// The command that the words are. It takes no memory, and is `None` exactly where the words are no command.
+#[tactic(auto, unfolding(outcome_terms::specs::Commands::request_of))]
 pub fn read_words<'a>(words: &'a [String]) -> Option<Command<'a>>
     ensures { option_map request result ≡ request_of (map string_bytes words.now) }
 {
     let (command, arguments) = words.split_first()?;
-    match command.as_str() {
-        "register" => register_words(arguments),
-        "enrol" => enrol_words(arguments),
-        "accuse" => accuse_words(arguments),
-        _ => None,
+    if is_word(command, "register") {
+        register_words(arguments)
+    } else if is_word(command, "enrol") {
+        enrol_words(arguments)
+    } else if is_word(command, "accuse") {
+        accuse_words(arguments)
+    } else {
+        None
     }
+}
+
+fn is_word(word: &String, name: &str) -> bool
+    ensures { result ≡ bytes_eq (string_bytes word.now) name.now }
+{
+    word.as_str() == name
+}
+
+/// The word, where it has the form of a blob's name.
+fn named(word: &String) -> Option<&str>
+    ensures { option_map (λ text. text.now) result ≡ blob_name (string_bytes word.now) }
+{
+    let text = word.as_str();
+    if is_name(text) { Some(text) } else { None }
+}
+
+fn number(word: &String) -> Option<u128>
+    ensures { result ≡ number_of (string_bytes word.now) }
+{
+    read_number(word.as_str())
 }
 
 fn register_words<'a>(arguments: &'a [String]) -> Option<Command<'a>>
@@ -65,40 +91,49 @@ fn register_words<'a>(arguments: &'a [String]) -> Option<Command<'a>>
     let [m, k, a, b, out] = arguments else {
         return None;
     };
-    let m = read_number(m.as_str())?;
-    let k = read_number(k.as_str())?;
-    let a = read_number(a.as_str())?;
-    let b = read_number(b.as_str())?;
-    let out = out.as_str();
-    if !is_name(out) {
-        return None;
-    }
+    register_from(m, k, a, b, out)
+}
+
+#[tactic(auto, unfolding(outcome_terms::specs::Commands::make_from))]
+fn register_from<'a>(
+    m: &String,
+    k: &String,
+    a: &String,
+    b: &String,
+    out: &'a String,
+) -> Option<Command<'a>>
+    ensures { option_map request result ≡ make_from (string_bytes m.now) (string_bytes k.now) (string_bytes a.now) (string_bytes b.now) (string_bytes out.now) }
+{
+    let m = number(m)?;
+    let k = number(k)?;
+    let a = number(a)?;
+    let b = number(b)?;
+    let out = named(out)?;
     Some(Command::Register { m, k, a, b, out })
 }
 
+#[tactic(auto, unfolding(outcome_terms::specs::Commands::enrol_of))]
 fn enrol_words<'a>(arguments: &'a [String]) -> Option<Command<'a>>
     ensures { option_map request result ≡ enrol_of (map string_bytes arguments.now) }
 {
     let [reg, name, out] = arguments else {
         return None;
     };
-    let (reg, name, out) = (reg.as_str(), name.as_str(), out.as_str());
-    if !is_name(reg) || !is_name(name) || !is_name(out) {
-        return None;
-    }
+    let reg = named(reg)?;
+    let name = named(name)?;
+    let out = named(out)?;
     Some(Command::Enrol { reg, name, out })
 }
 
+#[tactic(auto, unfolding(outcome_terms::specs::Commands::accuse_of))]
 fn accuse_words<'a>(arguments: &'a [String]) -> Option<Command<'a>>
     ensures { option_map request result ≡ accuse_of (map string_bytes arguments.now) }
 {
     let [reg, word, c] = arguments else {
         return None;
     };
-    let (reg, word) = (reg.as_str(), word.as_str());
-    if !is_name(reg) || !is_name(word) {
-        return None;
-    }
-    let c = read_number(c.as_str())?;
+    let reg = named(reg)?;
+    let word = named(word)?;
+    let c = number(c)?;
     Some(Command::Accuse { reg, word, c })
 }

@@ -8,6 +8,7 @@ use shelf_io::Memory;
 use std::alloc::Global;
 
 /// The error line of a status: `error`, its number and the detail, with a line feed. The only error is want of memory.
+#[tactic(auto, unfolding(outcome_terms::specs::Statuses::line_of))]
 pub fn error_line(alloc: Global, status: Status, detail: &str) -> Result<Vec<u8>, Memory>
     requires done { status ≢ Status.Ok }
     requires out { status ≢ Status.OutFault }
