@@ -1,7 +1,10 @@
 //! Why a command was refused, with what its error line says.
 
+ghost use Rattle.std.specs.Prelude.{◌≡◌};
+ghost use Rattle.outcome_terms.specs.declared.refusal.Refusal.TheVariants as refusals;
+
 use code_terms::WordFault;
-use lists::Text;
+use lists::{Memory, Text};
 use register_terms::{RegisterFault, RegisterKind};
 
 /// A refusal of a command before anything was put out, with the detail of its error line.
@@ -42,4 +45,12 @@ pub enum Refusal {
     BadWord(WordFault),
     /// The numbers make no register: the first rule that they break.
     BadParameters(RegisterKind),
+}
+
+impl From<Memory> for Refusal {
+    ghost from_gives = { λ _ e. e ≡ refusals.Memory };
+
+    fn from(_error: Memory) -> Refusal {
+        Refusal::Memory
+    }
 }

@@ -1,0 +1,79 @@
+-- What stands in an output after one put or two, from what each of them says.
+use Rattle.std.proofs.Common.{◌≡◌, ◌≢◌, ℕ, ◌-◌, ◌≤◌, List, ◌++◌, length, take, Option, Some, None, Result, Ok, Err, refl, sym, ap, ◌∙◌, subst, inl, inr, arith, length-append}
+use Rattle.std.proofs.lemmas.List.{take_all}
+use Rattle.shelf_terms.specs.Puts.{Puts}
+use Rattle.shelf_io.specs.declared.errors.SinkError.{SinkError}
+use Rattle.shelf_io.specs.Puts.{PutGives}
+use Rattle.outcome_terms.specs.declared.status.Status.{Status}
+use Rattle.outcome_terms.specs.declared.status.Status.TheVariants as status
+use Rattle.outcome_terms.specs.declared.refusal.Refusal.{Refusal}
+use Rattle.outcome_terms.specs.Statuses.{refusal_status, error_text}
+use Rattle.outcome_terms.specs.Endings.{TellsOut, TellsFront, PutsAnswer, PutsRefusal, PutsBoth, memory_line}
+
+-- all of a text is a front of it
+pub puts_whole : (old new text : List ℕ) → new ≡ old ++ text → Puts old new text
+puts_whole old new text h = h ∙ ap (λ t. old ++ t) (sym (take_all (length new - length old) text (omega (arith, length-append old text, ap length h))))
+
+-- a put leaves a front of its text
+pub front_told : (old new : Option (List ℕ)) (bytes text : List ℕ) (r : Result (Unit {0}) SinkError) → bytes ≡ text → PutGives old new bytes r → TellsFront text old new
+front_told (Some old) (Some new) bytes text (Ok done) same h = puts_whole old new text (h ∙ ap (λ t. old ++ t) same)
+front_told (Some old) (Some new) bytes text (Err e) same h = subst (λ t. Puts old new t) same h
+front_told None None bytes text r same h = tt
+front_told (Some old) None bytes text r same h = h
+front_told None (Some new) bytes text r same h = tt
+
+-- ---- an answer
+
+module _ (text : List ℕ) (rose : Type 0) where
+  pub answer_done : (old new : Option (List ℕ)) (done : Unit {0}) → PutGives old new text (Ok done) → TellsOut (Ok text) status.Ok rose old new
+  answer_done (Some old) (Some new) done h = record { ends = inl refl; whole = λ _. h; fault = λ e. cc; memory = λ e. cc }
+  answer_done None None done h = tt
+  answer_done (Some old) None done h = h
+  answer_done None (Some new) done h = tt
+
+  pub answer_fault : (old new : Option (List ℕ)) (e : SinkError) → PutGives old new text (Err e) → TellsOut (Ok text) status.OutFault rose old new
+  answer_fault (Some old) (Some new) e h = record { ends = inr (inl refl); whole = λ e. cc; fault = λ _. h; memory = λ e. cc }
+  answer_fault None None e h = tt
+  answer_fault (Some old) None e h = h
+  answer_fault None (Some new) e h = tt
+
+  pub answer_memory : (old between new : Option (List ℕ)) (e : SinkError) → PutGives old between text (Err e) → TellsFront memory_line between new → TellsOut (Ok text) status.Memory rose old new
+  answer_memory (Some old) (Some between) (Some new) e h g =
+      record { ends = inr (inr refl); whole = λ e. cc; fault = λ e. cc; memory = λ _. record { between = between; first_put = h; second_put = g } }
+  answer_memory None None new e h g = tt
+  answer_memory (Some old) None new e h g = absurd h
+  answer_memory None (Some between) new e h g = tt
+  answer_memory (Some old) (Some between) None e h g = g
+
+-- ---- the error line of a refusal
+
+module _ (e : Refusal) (rose : Type 0) where
+  pub line_done : (old new : Option (List ℕ)) (line : List ℕ) (done : Unit {0}) → line ≡ error_text e → PutGives old new line (Ok done) → TellsOut (Err e) (refusal_status e) rose old new
+  line_done (Some old) (Some new) line done same h =
+      let all : new ≡ old ++ error_text e = h ∙ ap (λ t. old ++ t) same in
+      record { ends = inl refl; front = λ _. puts_whole old new (error_text e) all; whole = λ _ _. all; memory = λ _. inl (puts_whole old new (error_text e) all) }
+  line_done None None line done same h = tt
+  line_done (Some old) None line done same h = h
+  line_done None (Some new) line done same h = tt
+
+  pub line_fault : (old new : Option (List ℕ)) (line : List ℕ) (f : SinkError) → line ≡ error_text e → rose → PutGives old new line (Err f) → TellsOut (Err e) (refusal_status e) rose old new
+  line_fault (Some old) (Some new) line f same up h =
+      let front : Puts old new (error_text e) = subst (λ t. Puts old new t) same h in
+      record { ends = inl refl; front = λ _. front; whole = λ _ calm. absurd (calm up); memory = λ _. inl front }
+  line_fault None None line f same up h = tt
+  line_fault (Some old) None line f same up h = h
+  line_fault None (Some new) line f same up h = tt
+
+  pub line_memory : (old new : Option (List ℕ)) (line : List ℕ) (f : SinkError) → line ≡ error_text e → PutGives old new line (Err f) → TellsOut (Err e) status.Memory rose old new
+  line_memory (Some old) (Some new) line f same h =
+      let front : Puts old new (error_text e) = subst (λ t. Puts old new t) same h in
+      record { ends = inr refl; front = λ not. absurd (not refl); whole = λ not _. absurd (not refl); memory = λ _. inl front }
+  line_memory None None line f same h = tt
+  line_memory (Some old) None line f same h = h
+  line_memory None (Some new) line f same h = tt
+
+  -- no line could be made
+  pub no_line : (old new : Option (List ℕ)) → TellsFront memory_line old new → TellsOut (Err e) status.Memory rose old new
+  no_line (Some old) (Some new) h = record { ends = inr refl; front = λ not. absurd (not refl); whole = λ not _. absurd (not refl); memory = λ _. inr h }
+  no_line None new h = tt
+  no_line (Some old) None h = h
