@@ -82,3 +82,11 @@ impl<T: Drop> From<AllocFailed<T>> for RegisterReadError {
         RegisterReadError::Memory
     }
 }
+
+impl From<RegisterFault> for RegisterReadError {
+    ghost from_gives = { λ fault e. e ≡ read_errors.NotRegister fault };
+
+    fn from(fault: RegisterFault) -> RegisterReadError {
+        RegisterReadError::NotRegister(fault)
+    }
+}

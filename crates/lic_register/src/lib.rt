@@ -6,6 +6,7 @@
 
 mod errors;
 mod licensee;
+mod reading;
 mod register;
 
 pub use errors::{EnrolError, RegisterError, RegisterReadError};

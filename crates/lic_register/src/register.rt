@@ -1,11 +1,12 @@
 //! A register in memory.
 
-ghost use Rattle.std.specs.Prelude.{◌≡◌, ◌+◌, ◌*◌, ◌^◌, ◌≤◌, nat_lt, length, min, slice_get, IfOk, IfErr, OnOk, OnErr, if◌then◌else◌};
+ghost use Rattle.std.specs.Prelude.{◌≡◌, ◌+◌, ◌*◌, ◌%◌, ◌^◌, ◌≤◌, ◌==◌, ◌&&◌, None, nat_lt, length, min, slice_get, IfOk, IfErr, OnOk, OnErr, if◌then◌else◌};
 ghost use Rattle.std.specs.Option.{option_copied, option_map};
 ghost use Rattle.std.specs.Result.{result_err};
 ghost use Rattle.register_terms.specs.Enrolment.{serial_of, message_of, IsValid};
-ghost use Rattle.register_terms.specs.RegisterText.{refusal_of, with_name};
+ghost use Rattle.register_terms.specs.RegisterText.{refusal_of, with_name, are_bits, is_dimension};
 ghost use Rattle.lic_register.specs.Answers.{refused_by, empty_register, enrolment_of, EnrolsAs};
+ghost use Rattle.lic_register.specs.Parts.{register_by, IsAllowed};
 ghost use Rattle.lic_register.specs.declared.errors.EnrolError.TheVariants as enrol_errors;
 
 use crate::errors::{EnrolError, RegisterError};
@@ -36,6 +37,15 @@ pub struct Register {
     serials: HashMap<String, u32>,
 }
 
+/// The numbers of a register.
+#[derive(Clone, Copy, Debug, PartialEq, Eq)]
+pub(crate) struct Rule {
+    pub(crate) bits: u32,
+    pub(crate) dimension: u32,
+    pub(crate) multiplier: u128,
+    pub(crate) shift: u128,
+}
+
 impl Model for Register {
     ghost use Rattle.register_terms.specs.Enrolment.{Enrolment};
 
@@ -55,28 +65,32 @@ impl Register {
         ensures refused { result_err result ≡ refused_by m k a b }
         ensures made { IfOk result (λ r. r ≡ empty_register m k a b) }
     {
-        if !(4..=8).contains(&m) {
-            return Err(RegisterError::BadM);
-        }
-        if !(2..=13).contains(&k) {
-            return Err(RegisterError::BadK);
-        }
-        let messages = message_count(m, k);
-        if a % 2 == 0 || a >= messages {
-            return Err(RegisterError::BadMultiplier);
-        }
-        if b >= messages {
-            return Err(RegisterError::BadShift);
-        }
-        Ok(Register {
-            alloc,
+        let rule = Rule {
             bits: m,
             dimension: k,
             multiplier: a,
             shift: b,
+        };
+        match broken_rule(&rule) {
+            Some(error) => Err(error),
+            None => Ok(Register::by_rule(alloc, rule)),
+        }
+    }
+
+    /// A register without licensees.
+    pub(crate) fn by_rule(alloc: Global, rule: Rule) -> Register
+        requires { IsAllowed rule }
+        ensures { result ≡ register_by rule }
+    {
+        Register {
+            alloc,
+            bits: rule.bits,
+            dimension: rule.dimension,
+            multiplier: rule.multiplier,
+            shift: rule.shift,
             licensees: Vec::new(alloc),
             serials: HashMap::new(alloc),
-        })
+        }
     }
 
     /// The bits of a symbol, 4 to 8.
@@ -174,6 +188,47 @@ impl Register {
     }
 }
 
+/// The first rule that these numbers break.
+fn broken_rule(rule: &Rule) -> Option<RegisterError>
+    ensures { result ≡ refused_by rule.now.bits rule.now.dimension rule.now.multiplier rule.now.shift }
+{
+    if !are_bits(u128::from(rule.bits)) {
+        return Some(RegisterError::BadM);
+    }
+    if !is_dimension(u128::from(rule.dimension)) {
+        return Some(RegisterError::BadK);
+    }
+    let messages = message_count(rule.bits, rule.dimension);
+    if !is_multiplier(rule.multiplier, messages) {
+        return Some(RegisterError::BadMultiplier);
+    }
+    if rule.shift >= messages {
+        return Some(RegisterError::BadShift);
+    }
+    None
+}
+
+/// Whether a symbol may have so many bits.
+pub(crate) fn are_bits(m: u128) -> bool
+    ensures { result ≡ are_bits m }
+{
+    (4..=8).contains(&m)
+}
+
+/// Whether a message may have so many symbols.
+pub(crate) fn is_dimension(k: u128) -> bool
+    ensures { result ≡ is_dimension k }
+{
+    (2..=13).contains(&k)
+}
+
+/// Whether the number is an odd message, of so many messages.
+pub(crate) fn is_multiplier(a: u128, messages: u128) -> bool
+    ensures { result ≡ ((a % 2 == 1) && nat_lt a messages) }
+{
+    a % 2 == 1 && a < messages
+}
+
 /// How many licensees a register of such a code can hold.
 fn capacity(bits: u32, dimension: u32) -> u32
     requires bits { bits ≤ 8 }
@@ -184,7 +239,7 @@ fn capacity(bits: u32, dimension: u32) -> u32
 }
 
 /// How many messages of so many symbols of so many bits there are.
-fn message_count(bits: u32, dimension: u32) -> u128
+pub(crate) fn message_count(bits: u32, dimension: u32) -> u128
     requires bits { bits ≤ 8 }
     requires dimension { dimension ≤ 13 }
     ensures { result ≡ 2 ^ (bits * dimension) }

@@ -1,3 +1,4 @@
+pub mod Places
 pub mod Serials
 pub mod Growing
 pub mod Lines

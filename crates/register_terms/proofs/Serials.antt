@@ -1,14 +1,14 @@
 -- The serial of a name: where it stands in the list, and what it is after one more name.
-use Rattle.std.proofs.Common.{◌≡◌, ◌≢◌, ℕ, ◌+◌, ◌<◌, ◌≤◌, Bool, true, false, cond, ltb, List, [], ◌∷◌, ◌++◌, length, get_or, Some, None, refl, sym, ap, ◌∙◌, arith, length-append, inl, inr}
-use Rattle.std.specs.List.{AllPairs, position, position_or_len}
+use Rattle.std.proofs.Common.{◌≡◌, ◌≢◌, ℕ, ◌<◌, Bool, true, false, cond, List, [], ◌∷◌, ◌++◌, length, get_or, Some, None, refl, sym, ap, ◌∙◌, arith}
+use Rattle.std.specs.List.{AllPairs, position_or_len}
 use Rattle.std.specs.Str.{bytes_eq}
-use Rattle.std.proofs.lemmas.Bool.{cases_Bool, cases_lt, ltb-false, lt-ltb, le-ltb, eq-eqb, ne_eqb, false_from_ne_true, cond-true, cond-false}
+use Rattle.std.proofs.lemmas.Bool.{false_from_ne_true}
 use Rattle.std.proofs.lemmas.Bool.Decides.{same_from_decides}
-use Rattle.std.proofs.lemmas.List.Sums.{prefix_len-le-length, position_or_len_is, fails_before_first}
-use Rattle.std.proofs.lemmas.List.Folds.{position_or_len_push}
+use Rattle.std.proofs.lemmas.List.Sums.{position_or_len_is, fails_before_first}
 use Rattle.std.proofs.lemmas.List.Quantifiers.{position-Some}
 use Rattle.std.proofs.lemmas.Slice.Eq.{bytes_eq-Decides}
 use Rattle.register_terms.specs.Enrolment.{serial_of}
+use Rattle.register_terms.proofs.Places.{no_place, at_place, past_places, position_push}
 
 pub same_bytes : (xs ys : List ℕ) → bytes_eq xs ys ≡ true → xs ≡ ys
 same_bytes xs ys is = (bytes_eq-Decides xs ys).0 is
@@ -18,48 +18,6 @@ bytes_eq-own xs = (bytes_eq-Decides xs xs).1 refl
 
 pub bytes_differ : (xs ys : List ℕ) → xs ≢ ys → bytes_eq xs ys ≡ false
 bytes_differ xs ys differ = false_from_ne_true (bytes_eq xs ys) (λ is. differ (same_bytes xs ys is))
-
--- ---- a first place, of any test
-
-first-le : {X : Type 0} (p : X → Bool) (xs : List X) → position_or_len p xs ≤ length xs
-first-le p xs = prefix_len-le-length _ xs
-
-no_place : {X : Type 0} (p : X → Bool) (xs : List X) → position p xs ≡ None → position_or_len p xs ≡ length xs
-no_place p xs none =
-    elim (cases_Bool (ltb (position_or_len p xs) (length xs))) [
-      | inl is ↦ let found = cond-true (ltb (position_or_len p xs) (length xs)) (Some (position_or_len p xs)) None is in absurd (cc (found, none))
-      | inr is_not ↦ omega (arith, ltb-false (position_or_len p xs) (length xs) is_not, first-le p xs)
-    ]
-
-at_place : {X : Type 0} (p : X → Bool) (xs : List X) (i : ℕ) → i < length xs → position_or_len p xs ≡ i → position p xs ≡ Some i
-at_place p xs i lt is = rw (is, lt-ltb i (length xs) lt) refl
-
-past_places : {X : Type 0} (p : X → Bool) (xs : List X) → length xs ≤ position_or_len p xs → position p xs ≡ None
-past_places p xs le = cond-false (ltb (position_or_len p xs) (length xs)) (Some (position_or_len p xs)) None (le-ltb (position_or_len p xs) (length xs) le)
-
--- one more element that fails
-kept : {X : Type 0} (p : X → Bool) (xs : List X) (y : X) → p y ≡ false → position p (xs ++ y ∷ []) ≡ position p xs
-kept p xs y is_not =
-    elim (cases_lt (position_or_len p xs) (length xs)) [
-      | inl lt ↦
-          let first : position_or_len p (xs ++ y ∷ []) ≡ position_or_len p xs = position_or_len_push p xs y ∙ rw (ne_eqb (position_or_len p xs) (length xs) (λ e. omega arith)) refl in
-          at_place p (xs ++ y ∷ []) (position_or_len p xs) (omega (arith, length-append xs (y ∷ []))) first ∙ sym (at_place p xs (position_or_len p xs) lt refl)
-      | inr le ↦
-          let all : position_or_len p xs ≡ length xs = omega (arith, first-le p xs) in
-          let first : position_or_len p (xs ++ y ∷ []) ≡ length xs + 1 = position_or_len_push p xs y ∙ rw (eq-eqb (position_or_len p xs) (length xs) all, is_not) refl in
-          past_places p (xs ++ y ∷ []) (omega (arith, length-append xs (y ∷ []))) ∙ sym (past_places p xs le)
-    ]
-
--- one more element
-position_push : {X : Type 0} (p : X → Bool) (xs : List X) (y : X) → (p y ≡ true → position p xs ≡ None) → position p (xs ++ y ∷ []) ≡ cond (p y) (Some (length xs)) (position p xs)
-position_push p xs y new =
-    elim (cases_Bool (p y)) [
-      | inl is ↦
-          let all = no_place p xs (new is) in
-          let first : position_or_len p (xs ++ y ∷ []) ≡ length xs = position_or_len_push p xs y ∙ rw (eq-eqb (position_or_len p xs) (length xs) all, is) (omega arith) in
-          at_place p (xs ++ y ∷ []) (length xs) (omega (arith, length-append xs (y ∷ []))) first ∙ sym (cond-true (p y) (Some (length xs)) (position p xs) is)
-      | inr is_not ↦ kept p xs y is_not ∙ sym (cond-false (p y) (Some (length xs)) (position p xs) is_not)
-    ]
 
 -- ---- the serial of a name
 

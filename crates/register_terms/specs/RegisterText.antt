@@ -54,7 +54,7 @@ line_at number (text ∷ next ∷ parts) = Ok (text, next ∷ parts)
 
 -- the number that follows a word
 abbrev pub number_after : List ℕ → List ℕ → Option ℕ
-number_after word text = if bytes_eq word (take (length word) text) then number_of (drop (length word) text) else None
+number_after word text = if bytes_eq (take (length word) text) word then number_of (drop (length word) text) else None
 
 -- a line that is a word and a number
 abbrev pub number_line_at : ℕ → List ℕ → List (List ℕ) → Result (ℕ × List (List ℕ)) RegisterFault
@@ -71,7 +71,7 @@ within allowed refusal found = if allowed found.0 then Ok found else Err refusal
 abbrev pub form_line_at : List (List ℕ) → Result (List (List ℕ)) RegisterFault
 form_line_at parts = do
   first ← line_at 1 parts
-  if bytes_eq (codes "register 1") first.0 then Ok first.1 else Err (fault 1 Header)
+  if bytes_eq first.0 (codes "register 1") then Ok first.1 else Err (fault 1 Header)
 
 abbrev pub are_bits : ℕ → Bool
 are_bits m = nat_le 4 m && nat_le m 8
