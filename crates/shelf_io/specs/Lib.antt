@@ -1,3 +1,5 @@
 pub mod Reads
 pub mod Writes
 pub mod Puts
+pub mod Plan
+pub mod MemSink

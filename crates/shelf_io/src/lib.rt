@@ -1,7 +1,10 @@
 //! The outside of the program: blobs under names, what is put out, and the small texts that pass between.
 #![tactic(auto)]
 
+mod call_plan;
 mod errors;
+mod mem_sink;
+mod name_buffer;
 mod names;
 mod numbers;
 mod shelf;
@@ -10,6 +13,7 @@ mod whole;
 
 pub use errors::{FetchError, ShelfError, SinkError};
 pub use lists::{Memory, Text};
+pub use mem_sink::MemSink;
 pub use names::{is_name, is_plain};
 pub use numbers::{number_text, read_number};
 pub use shelf::Shelf;

@@ -1,0 +1,19 @@
+-- Calls that are counted from 1 on, some of which are to fail. This project's own.
+use Rattle.std.specs.Prelude.{ℕ, ◌+◌, ◌-◌, ◌^◌, min, Bool, ◌==◌, List}
+use Rattle.std.specs.List.{list_any}
+
+pub record Plan : Type 0 where
+  -- the numbers of the calls that are to fail
+  pub failing : List ℕ
+  -- how many calls there were; it stops at 2^64 - 1
+  pub made : ℕ
+
+-- one more of what a count counts; it stops at its last value
+abbrev pub one_more : ℕ → ℕ
+one_more count = min (count + 1) (2 ^ 64 - 1)
+
+abbrev pub fails_next : Plan → Bool
+fails_next plan = list_any (λ call. call == one_more plan.made) plan.failing
+
+abbrev pub after_call : Plan → Plan
+after_call plan = record { failing = plan.failing; made = one_more plan.made }
