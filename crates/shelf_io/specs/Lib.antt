@@ -3,3 +3,5 @@ pub mod Writes
 pub mod Puts
 pub mod Plan
 pub mod MemSink
+pub mod BlobList
+pub mod MemShelf

@@ -1,5 +1,6 @@
 -- Calls that are counted from 1 on, some of which are to fail. This project's own.
-use Rattle.std.specs.Prelude.{ℕ, ◌+◌, ◌-◌, ◌^◌, min, Bool, ◌==◌, List}
+use Rattle.std.specs.Prelude.{refl, ℕ, ◌+◌, ◌-◌, ◌^◌, min, Bool, ◌==◌, List}
+use Rattle.std.specs.Coded.{Coded, code_by, coded×, coded_ℕ, coded_list}
 use Rattle.std.specs.List.{list_any}
 
 pub record Plan : Type 0 where
@@ -7,6 +8,10 @@ pub record Plan : Type 0 where
   pub failing : List ℕ
   -- how many calls there were; it stops at 2^64 - 1
   pub made : ℕ
+
+-- by which a proof tells such plans apart
+abbrev pub plan_code : Coded Plan
+plan_code = code_by (List ℕ × ℕ) (coded× (coded_list coded_ℕ) coded_ℕ) (λ p. (p.failing, p.made)) (λ p. record { failing = p.0; made = p.1 }) (λ _. refl)
 
 -- one more of what a count counts; it stops at its last value
 abbrev pub one_more : ℕ → ℕ

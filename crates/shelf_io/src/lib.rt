@@ -1,8 +1,10 @@
 //! The outside of the program: blobs under names, what is put out, and the small texts that pass between.
 #![tactic(auto)]
 
+mod blob_list;
 mod call_plan;
 mod errors;
+mod mem_shelf;
 mod mem_sink;
 mod name_buffer;
 mod names;
@@ -13,6 +15,7 @@ mod whole;
 
 pub use errors::{FetchError, ShelfError, SinkError};
 pub use lists::{Memory, Text};
+pub use mem_shelf::MemShelf;
 pub use mem_sink::MemSink;
 pub use names::{is_name, is_plain};
 pub use numbers::{number_text, read_number};

@@ -1,0 +1,145 @@
+//! A store in memory, which fails where a test wants it to.
+
+ghost use Rattle.std.specs.Prelude.{◌≡◌, ◌≤◌, ◌++◌, ◌∷◌, [], ℕ, List, length, IfOk, IsTrue, OnErr, OnOk, is_ok, Some, Err, true, false};
+ghost use Rattle.std.specs.FinMap.{empty, insert};
+ghost use Rattle.text_terms.specs.Names.{is_name};
+ghost use Rattle.shelf_terms.specs.Counts.{tally};
+ghost use Rattle.shelf_terms.specs.Causes.{ReadCauses, WriteCauses};
+ghost use Rattle.shelf_io.specs.MemShelf.{after_part, after_write};
+ghost use Rattle.shelf_io.specs.Plan.{fails_next};
+ghost use Rattle.shelf_io.specs.Reads.{PartGives, part_failed, part_missed};
+ghost use Rattle.shelf_io.specs.Writes.{WriteGives, write_failed};
+
+use crate::blob_list::{Blob, find, part_slice, store};
+use crate::call_plan::CallPlan;
+use crate::errors::ShelfError;
+use crate::name_buffer::NameBuffer;
+use crate::shelf::Shelf;
+use lists::Memory;
+use std::alloc::Global;
+use std::marker::Model;
+
+/// A store in memory. Its calls of `part` and `write` are counted together from 1, and those that are named before fail.
+#[derive(Drop)]
+pub struct MemShelf {
+    alloc: Global,
+    blobs: Vec<Blob>,
+    plan: CallPlan,
+    faults: u64,
+    misses: u64,
+    write_faults: u64,
+    blamed: NameBuffer,
+}
+
+impl Model for MemShelf {
+    ghost use Rattle.shelf_io.specs.BlobList.{blobs_of};
+    ghost use Rattle.shelf_io.specs.MemShelf.{MemShelfView, view_code};
+
+    ghost Value = { MemShelfView };
+
+    ghost coded = { view_code };
+
+    ghost view = { λ s. record { blobs = blobs_of s.blobs.items; plan = s.plan; faults = s.faults; misses = s.misses; write_faults = s.write_faults; blamed = s.blamed } };
+}
+
+impl MemShelf {
+    /// A store that holds nothing, and of which no call is to fail.
+    pub fn new(alloc: Global) -> Self
+        ensures { result ≡ record { blobs = empty; plan = record { failing = []; made = 0 }; faults = 0; misses = 0; write_faults = 0; blamed = [] } }
+    {
+        MemShelf {
+            alloc,
+            blobs: Vec::new(alloc),
+            plan: CallPlan::new(alloc),
+            faults: 0,
+            misses: 0,
+            write_faults: 0,
+            blamed: NameBuffer::new(),
+        }
+    }
+
+    /// Lets the call of this number fail.
+    pub fn fail(&mut self, call: u64) -> Result<(), Memory>
+        ensures done { OnOk result (self.new ≡ record self.old { plan = record self.old.plan { failing = self.old.plan.failing ++ call ∷ [] } }) }
+        ensures refused { OnErr result (self.new ≡ self.old) }
+    {
+        self.plan.fail(call)
+    }
+
+    /// Makes these bytes the blob of the name. It is no counted call.
+    pub fn hold(&mut self, name: &str, bytes: &[u8]) -> Result<(), Memory>
+        ensures done { OnOk result (self.new ≡ record self.old { blobs = insert self.old.blobs name.now bytes.now }) }
+        ensures refused { OnErr result (self.new ≡ self.old) }
+    {
+        store(&mut self.blobs, self.alloc, name, bytes)
+    }
+}
+
+impl Shelf for MemShelf {
+    ghost use Rattle.std.specs.Prelude.{Some};
+
+    ghost holds = { λ s. Some s.blobs };
+
+    ghost faults = { λ s. s.faults };
+
+    ghost misses = { λ s. s.misses };
+
+    ghost write_faults = { λ s. s.write_faults };
+
+    ghost blamed = { λ s. s.blamed };
+
+    /// A call that is to fail does so before anything is looked up.
+    fn part(
+        &mut self,
+        alloc: Global,
+        name: &str,
+        from: u64,
+        most: usize,
+    ) -> Result<Vec<u8>, ShelfError>
+        requires name { IsTrue (is_name name.now) }
+        requires some { 1 ≤ most }
+        ensures most { IfOk result (λ part. length part.items ≤ most) }
+        ensures bytes { PartGives (λ part. part.items) (Some self.old.blobs) name.now from most result }
+        ensures same { Some self.new.blobs ≡ Some self.old.blobs }
+        ensures causes { ReadCauses (tally (λ s. s.faults) (λ s. s.misses) (λ s. s.write_faults) (λ s. s.blamed) self.old)
+            (tally (λ s. s.faults) (λ s. s.misses) (λ s. s.write_faults) (λ s. s.blamed) self.new) name.now (part_failed result) (part_missed result) }
+        ensures fails { part_failed result ≡ fails_next self.old.plan }
+        ensures after { self.new ≡ after_part self.old name.now (part_failed result) (part_missed result) }
+    {
+        if self.plan.next_fails() {
+            self.faults = self.faults.saturating_add(1);
+            self.blamed.set(name);
+            return Err(ShelfError::Fault);
+        }
+        match find(self.blobs.as_slice(), name) {
+            None => {
+                self.misses = self.misses.saturating_add(1);
+                Err(ShelfError::Missing)
+            }
+            Some(place) => {
+                let blob = self.blobs[place].bytes.as_slice();
+                Ok(Vec::from_slice(alloc, part_slice(blob, from, most))?)
+            }
+        }
+    }
+
+    /// A call that is to fail, or for which there is not enough memory, changes no blob.
+    fn write(&mut self, alloc: Global, name: &str, bytes: &[u8]) -> Result<(), ShelfError>
+        requires { IsTrue (is_name name.now) }
+        ensures bytes { WriteGives (Some self.old.blobs) (Some self.new.blobs) name.now bytes.now result }
+        ensures never_missing { result ≡ Err ShelfError.Missing → ⊥ }
+        ensures causes { WriteCauses (tally (λ s. s.faults) (λ s. s.misses) (λ s. s.write_faults) (λ s. s.blamed) self.old)
+            (tally (λ s. s.faults) (λ s. s.misses) (λ s. s.write_faults) (λ s. s.blamed) self.new) (write_failed result) }
+        ensures fails { write_failed result ≡ fails_next self.old.plan }
+        ensures after { self.new ≡ after_write self.old name.now bytes.now (is_ok result) (write_failed result) }
+    {
+        if self.plan.next_fails() {
+            self.write_faults = self.write_faults.saturating_add(1);
+            return Err(ShelfError::Fault);
+        }
+        match store(&mut self.blobs, alloc, name, bytes) {
+            Ok(()) => Ok(()),
+            Err(Memory) => Err(ShelfError::Memory),
+        }
+    }
+}
