@@ -1,5 +1,5 @@
 -- The written tables: each power is twice the one before, and powers and logarithms undo each other, by computing.
-use Rattle.std.proofs.Common.{◌≡◌, ℕ, zero, suc, ◌+◌, ◌*◌, ◌-◌, ◌^◌, ◌<◌, ◌≤◌, ◌==◌, ◌&&◌, Bool, true, false, List, [], ◌∷◌, length, get_or, refl, sym, ◌∙◌, ap, arith}
+use Rattle.std.proofs.Common.{◌≡◌, ℕ, zero, suc, ◌+◌, ◌*◌, ◌-◌, ◌^◌, ◌<◌, ◌==◌, ◌&&◌, Bool, true, List, [], ◌∷◌, length, get_or, refl, sym, ◌∙◌, ap, arith}
 use Rattle.std.specs.Prelude.{nat_lt}
 use Rattle.std.proofs.lemmas.Bool.{eqb-true, ltb-true}
 use Rattle.gf_terms.specs.Arithmetic.{carryless, reduced, reduction, product, power}
@@ -32,9 +32,9 @@ record Tested (m : ℕ) (powers logs : List ℕ) : Type 0 where
 are_powers : (m : ℕ) (powers logs : List ℕ) → Tested m powers logs → ArePowers m powers
 unfolding power
 are_powers m powers logs t = record {
-    whole = t.whole;
-    each = λ i h. power_at m 0 powers t.doubled i (omega (arith, t.whole)) ∙ ap (power m 2) (let e : 0 + i ≡ i = omega arith in e)
-  }
+  whole = t.whole;
+  each = λ i h. power_at m 0 powers t.doubled i (omega (arith, t.whole)) ∙ ap (power m 2) (let e : 0 + i ≡ i = omega arith in e);
+}
 
 log_at : (m : ℕ) (powers logs : List ℕ) → undo m powers logs ≡ true → (x : ℕ) → 0 < x → x < 2 ^ m → (get_or logs x 0 < 2 ^ m - 1) × (get_or powers (get_or logs x 0) 0 ≡ x)
 unfolding undo
@@ -46,13 +46,13 @@ log_at m powers logs h (suc x) p below =
 
 are_logarithms : (m : ℕ) (powers logs : List ℕ) → Tested m powers logs → AreLogarithms m logs
 are_logarithms m powers logs t = record {
-    whole = t.logs_whole;
-    below = λ x p h. (log_at m powers logs t.undone x p h).0;
-    each = λ x p h.
+  whole = t.logs_whole;
+  below = λ x p h. (log_at m powers logs t.undone x p h).0;
+  each = λ x p h.
       let a = log_at m powers logs t.undone x p h in
       let b : get_or logs x 0 < 2 ^ m - 1 = a.0 in
-      sym ((are_powers m powers logs t).each (get_or logs x 0) (omega arith)) ∙ a.1
-  }
+      sym ((are_powers m powers logs t).each (get_or logs x 0) (omega arith)) ∙ a.1;
+}
 
 tested_4 : Tested 4 EXPONENTS_4 LOGARITHMS_4
 unfolding product reduced carryless reduction each_below are_doublings undo

@@ -1,6 +1,6 @@
 -- The elements of GF(2^m) are the numbers below 2^m, with exclusive or as the sum and the product of polynomials modulo one of degree m.
 use Rattle.std.specs.Prelude.{◌≡◌, ◌≢◌, ◌⊎◌, ℕ, ◌^◌, ◌<◌, ◌≤◌, bit_xor}
-use Rattle.std.proofs.Common.{refl, ap, ◌∙◌, sym, inl, inr}
+use Rattle.std.proofs.Common.{ap, inl, inr}
 use Rattle.std.proofs.Math.Nat.{pos_of_ne-zero}
 use Rattle.std.proofs.Math.Bridge.{le_prop}
 use Rattle.std.proofs.lemmas.Bool.Decides.{eqb_tells}
@@ -9,7 +9,7 @@ use lib.Bits.{xor_lt, xor_comm, xor_assoc, xor_self, xor_zero_l}
 use Rattle.algebra.specs.Ring.{Ring, IsField}
 use Rattle.gf_terms.specs.Arithmetic.{product}
 use Rattle.gf_terms.proofs.Linear.{product_plus}
-use Rattle.gf_terms.proofs.Field.{closed, product_comm, product_assoc, one_product, one_below, zero_below, one_is_not_zero, Inverse, inverse}
+use Rattle.gf_terms.proofs.Field.{closed, product_comm, product_assoc, one_product, one_below, zero_below, one_is_not_zero, inverse}
 use Rattle.gf2m.specs.declared.gf.Gf.{Gf}
 
 abbrev pub element : (m n : ℕ) → n < 2 ^ m → Gf m
@@ -46,7 +46,7 @@ module _ (m : ℕ) (low : 4 ≤ m) (high : m ≤ 8) where
     times_comm = λ x y. same_element m (times x y) (times y x) (product_comm m low high x.value y.value x.in_range y.in_range);
     times_assoc = λ x y z. same_element m (times (times x y) z) (times x (times y z)) (product_assoc m low high x.value y.value z.value x.in_range y.in_range z.in_range);
     times_unit = λ x. same_element m (times unit x) x (one_product m low high x.value x.in_range);
-    times_plus = λ x y z. same_element m (times x (plus m y z)) (plus m (times x y) (times x z)) (product_plus m x.value y.value z.value)
+    times_plus = λ x y z. same_element m (times x (plus m y z)) (plus m (times x y) (times x z)) (product_plus m x.value y.value z.value);
   }
 
   pub decided : (x : Gf m) → (x ≡ nil) ⊎ (x ≢ nil)
@@ -69,5 +69,5 @@ module _ (m : ℕ) (low : 4 ≤ m) (high : m ≤ 8) where
     apart = λ h. one_is_not_zero (ap (λ (t : Gf m). t.value) h);
     decided = decided;
     inverse = λ x. inverse_of x (decided x);
-    inverse_times = λ x h. inverse_of_times x (decided x) h
+    inverse_times = λ x h. inverse_of_times x (decided x) h;
   }

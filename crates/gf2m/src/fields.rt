@@ -394,4 +394,3 @@ impl Field for Gf<8> {
 
     ghost every = { λ n h. (element 8 n h, refl) };
 }
-

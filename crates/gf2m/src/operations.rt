@@ -1,7 +1,15 @@
 //! The operations of `Field` on `Gf<M>`, for every M at once.
 
 ghost use Rattle.std.specs.Prelude.{
-    ◌≡◌, ◌^◌, ◌+◌, ◌<◌, ◌≤◌, ◌↔◌, IsNone, IfSome, length,
+  ◌≡◌,
+  ◌^◌,
+  ◌+◌,
+  ◌<◌,
+  ◌≤◌,
+  ◌↔◌,
+  IsNone,
+  IfSome,
+  length,
 };
 ghost use lib.Lanes.{zip2};
 ghost use Rattle.gf2m.specs.Elements.{nil, plus, times, unit};
@@ -68,13 +76,9 @@ pub fn product<const M: u32, P: Ledger>(x: Gf<M>, y: Gf<M>, prods: &mut Steps<P>
 pub fn inverse<const M: u32, P: Ledger>(x: Gf<M>, prods: &mut Steps<P>) -> Option<Gf<M>>
     requires low { 4 ≤ M }
     requires high { M ≤ 8 }
-    ensures none {
-        (low : 4 ≤ M) (high : M ≤ 8) → IsNone result ↔ (x.entry ≡ nil M low high)
-    }
-    ensures some {
-        (low : 4 ≤ M) (high : M ≤ 8) →
-            IfSome result (λ y. times M low high x.entry y ≡ unit M low high)
-    }
+    ensures none { (low : 4 ≤ M) (high : M ≤ 8) → IsNone result ↔ (x.entry ≡ nil M low high) }
+    ensures some { (low : 4 ≤ M) (high : M ≤ 8) →
+        IfSome result (λ y. times M low high x.entry y ≡ unit M low high) }
     ensures ticks { prods.new ≡ prods.old + 1 }
 {
     prods.tick();
@@ -96,10 +100,8 @@ pub fn add_multiple<const M: u32, P: Ledger>(
     requires low { 4 ≤ M }
     requires high { M ≤ 8 }
     requires same { length target.old ≡ length source.now }
-    ensures value {
-        (low : 4 ≤ M) (high : M ≤ 8) →
-            target.new ≡ zip2 (λ x y. plus M x (times M low high factor.entry y)) target.old source.now
-    }
+    ensures value { (low : 4 ≤ M) (high : M ≤ 8) →
+        target.new ≡ zip2 (λ x y. plus M x (times M low high factor.entry y)) target.old source.now }
     ensures ticks { prods.new ≡ prods.old + length source.now }
 {
     prods.add(source.len() as u64);

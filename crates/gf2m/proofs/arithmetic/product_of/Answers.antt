@@ -8,8 +8,8 @@ use Rattle.gf2m.proofs.arithmetic.product_of.Goals.{then-x-eq0-via-then-x-eq0, t
 pub returns-then-x-eq0-clause-value : goal.returns-then-x-eq0-clause-value
 returns-then-x-eq0-clause-value g c =
     elim c.then-x-eq0.branch [
-      then-x-eq0-via-then-x-eq0 w ↦ sym (ap (λ t. product g.row.M t c.args.y) w.if-x-eq0.true ∙ zero_product g.row.M c.args.y)
-    | then-x-eq0-via-else-x-eq0+then-y-eq0 w ↦ sym (ap (product g.row.M c.args.x) w.if-y-eq0.true ∙ product_zero g.row.M c.args.x)
+      | then-x-eq0-via-then-x-eq0 w ↦ sym (ap (λ t. product g.row.M t c.args.y) w.if-x-eq0.true ∙ zero_product g.row.M c.args.y)
+      | then-x-eq0-via-else-x-eq0+then-y-eq0 w ↦ sym (ap (product g.row.M c.args.x) w.if-y-eq0.true ∙ product_zero g.row.M c.args.x)
     ]
 
 pub returns-clause-value : goal.returns-clause-value
