@@ -31,11 +31,14 @@ fn known_products<P: Ledger>(rt: &impl Abort, blank: Blank)
     requires some { 0 < P.parts }
 {
     let mut prods = Steps::<P>::new(blank);
-    assert_eq!(rt; times::<Gf<4>, P>(2, 9, &mut prods), Some(1));
-    assert_eq!(rt; times::<Gf<4>, P>(7, 7, &mut prods), Some(6));
-    assert_eq!(rt; times::<Gf<5>, P>(21, 4, &mut prods), Some(30));
-    assert_eq!(rt; times::<Gf<8>, P>(128, 128, &mut prods), Some(19));
-    assert_eq!(rt; times::<Gf<8>, P>(2, 128, &mut prods), Some(29));
+    let products = [
+        times::<Gf<4>, P>(2, 9, &mut prods),
+        times::<Gf<4>, P>(7, 7, &mut prods),
+        times::<Gf<5>, P>(21, 4, &mut prods),
+        times::<Gf<8>, P>(128, 128, &mut prods),
+        times::<Gf<8>, P>(2, 128, &mut prods),
+    ];
+    assert!(rt; products == [Some(1), Some(6), Some(30), Some(19), Some(29)]);
 }
 
 #[test]
@@ -49,12 +52,15 @@ fn known_inverses<P: Ledger>(rt: &impl Abort, blank: Blank)
     requires some { 0 < P.parts }
 {
     let mut prods = Steps::<P>::new(blank);
-    assert_eq!(rt; inverse::<Gf<4>, P>(0, &mut prods), None);
-    assert_eq!(rt; inverse::<Gf<4>, P>(2, &mut prods), Some(9));
-    assert_eq!(rt; inverse::<Gf<5>, P>(2, &mut prods), Some(18));
-    assert_eq!(rt; inverse::<Gf<6>, P>(2, &mut prods), Some(33));
-    assert_eq!(rt; inverse::<Gf<7>, P>(2, &mut prods), Some(68));
-    assert_eq!(rt; inverse::<Gf<8>, P>(2, &mut prods), Some(142));
+    let inverses = [
+        inverse::<Gf<4>, P>(0, &mut prods),
+        inverse::<Gf<4>, P>(2, &mut prods),
+        inverse::<Gf<5>, P>(2, &mut prods),
+        inverse::<Gf<6>, P>(2, &mut prods),
+        inverse::<Gf<7>, P>(2, &mut prods),
+        inverse::<Gf<8>, P>(2, &mut prods),
+    ];
+    assert!(rt; inverses == [None, Some(9), Some(18), Some(33), Some(68), Some(142)]);
 }
 
 #[test]
@@ -70,14 +76,15 @@ fn elements<F: Field>(alloc: Global, numbers: &[u8]) -> Option<Vec<F>> {
     Some(elements)
 }
 
-/// The target's numbers, after `factor` times each element of the source was added.
-fn adds<F: Field, P: Ledger>(
+/// Whether the target's numbers are `want` after `factor` times each element of the source was added.
+fn adds_up_to<F: Field, P: Ledger>(
     alloc: Global,
     target: &[u8],
     source: &[u8],
+    want: &[u8],
     factor: u8,
     prods: &mut Steps<P>,
-) -> Option<Vec<u8>> {
+) -> Option<bool> {
     let mut target = elements::<F>(alloc, target)?;
     let source = elements::<F>(alloc, source)?;
     let factor = F::of(factor)?;
@@ -85,11 +92,8 @@ fn adds<F: Field, P: Ledger>(
         return None;
     }
     F::add_multiple(&mut target, &source, factor, prods);
-    let mut numbers = Vec::new(alloc);
-    for element in &target {
-        numbers.push(element.to()).ok()?;
-    }
-    Some(numbers)
+    let want = elements::<F>(alloc, want)?;
+    Some(target == want)
 }
 
 fn known_slices<P: Ledger>(rt: &impl Abort, alloc: Global, blank: Blank)
@@ -98,16 +102,49 @@ fn known_slices<P: Ledger>(rt: &impl Abort, alloc: Global, blank: Blank)
     requires some { 0 < P.parts }
 {
     let mut prods = Steps::<P>::new(blank);
-    let four = adds::<Gf<4>, P>(alloc, &[0, 1, 5, 15, 7], &[3, 0, 15, 14, 9], 13, &mut prods);
-    assert!(rt; four.is_some_and(|numbers| numbers.as_slice() == [4, 1, 2, 5, 8].as_slice()));
-    let five = adds::<Gf<5>, P>(alloc, &[0, 1, 5, 31, 7], &[3, 0, 31, 30, 9], 29, &mut prods);
-    assert!(rt; five.is_some_and(|numbers| numbers.as_slice() == [2, 1, 12, 11, 9].as_slice()));
-    let six = adds::<Gf<6>, P>(alloc, &[0, 1, 5, 63, 7], &[3, 0, 63, 62, 9], 61, &mut prods);
-    assert!(rt; six.is_some_and(|numbers| numbers.as_slice() == [4, 1, 18, 21, 27].as_slice()));
-    let seven = adds::<Gf<7>, P>(alloc, &[0, 1, 5, 127, 7], &[3, 0, 127, 126, 9], 125, &mut prods);
-    assert!(rt; seven.is_some_and(|numbers| numbers.as_slice() == [14, 1, 79, 72, 45].as_slice()));
-    let eight = adds::<Gf<8>, P>(alloc, &[0, 1, 5, 255, 7], &[3, 0, 255, 254, 9], 253, &mut prods);
-    assert!(rt; eight.is_some_and(|numbers| numbers.as_slice() == [26, 1, 4, 3, 65].as_slice()));
+    let known = [
+        adds_up_to::<Gf<4>, P>(
+            alloc,
+            &[0, 1, 5, 15, 7],
+            &[3, 0, 15, 14, 9],
+            &[4, 1, 2, 5, 8],
+            13,
+            &mut prods,
+        ),
+        adds_up_to::<Gf<5>, P>(
+            alloc,
+            &[0, 1, 5, 31, 7],
+            &[3, 0, 31, 30, 9],
+            &[2, 1, 12, 11, 9],
+            29,
+            &mut prods,
+        ),
+        adds_up_to::<Gf<6>, P>(
+            alloc,
+            &[0, 1, 5, 63, 7],
+            &[3, 0, 63, 62, 9],
+            &[4, 1, 18, 21, 27],
+            61,
+            &mut prods,
+        ),
+        adds_up_to::<Gf<7>, P>(
+            alloc,
+            &[0, 1, 5, 127, 7],
+            &[3, 0, 127, 126, 9],
+            &[14, 1, 79, 72, 45],
+            125,
+            &mut prods,
+        ),
+        adds_up_to::<Gf<8>, P>(
+            alloc,
+            &[0, 1, 5, 255, 7],
+            &[3, 0, 255, 254, 9],
+            &[26, 1, 4, 3, 65],
+            253,
+            &mut prods,
+        ),
+    ];
+    assert!(rt; known == [Some(true); 5]);
 }
 
 #[test]
@@ -122,21 +159,27 @@ fn number_back<F: Field>(number: u8) -> Option<u8> {
 
 #[test]
 fn takes_numbers_below_the_size(rt: HostRuntime) {
-    assert_eq!(rt; number_back::<Gf<4>>(0), Some(0));
-    assert_eq!(rt; number_back::<Gf<4>>(15), Some(15));
-    assert_eq!(rt; number_back::<Gf<4>>(16), None);
-    assert_eq!(rt; number_back::<Gf<5>>(31), Some(31));
-    assert_eq!(rt; number_back::<Gf<5>>(32), None);
-    assert_eq!(rt; number_back::<Gf<6>>(64), None);
-    assert_eq!(rt; number_back::<Gf<7>>(127), Some(127));
-    assert_eq!(rt; number_back::<Gf<7>>(128), None);
-    assert_eq!(rt; number_back::<Gf<8>>(255), Some(255));
+    let last = [
+        number_back::<Gf<4>>(15),
+        number_back::<Gf<5>>(31),
+        number_back::<Gf<6>>(63),
+        number_back::<Gf<7>>(127),
+        number_back::<Gf<8>>(255),
+    ];
+    assert!(rt; last == [Some(15), Some(31), Some(63), Some(127), Some(255)]);
+    let past = [
+        number_back::<Gf<4>>(16),
+        number_back::<Gf<5>>(32),
+        number_back::<Gf<6>>(64),
+        number_back::<Gf<7>>(128),
+    ];
+    assert!(rt; past == [None; 4]);
 }
 
 #[test]
 fn adds_without_carries(rt: HostRuntime) {
-    assert_eq!(rt; plus::<Gf<4>>(9, 12), Some(5));
-    assert_eq!(rt; plus::<Gf<8>>(200, 200), Some(0));
-    assert_eq!(rt; Gf::<6>::zero().to(), 0);
-    assert_eq!(rt; Gf::<6>::one().to(), 1);
+    let sums = [plus::<Gf<4>>(9, 12), plus::<Gf<8>>(200, 200)];
+    assert!(rt; sums == [Some(5), Some(0)]);
+    let ends = [Gf::<6>::zero().to(), Gf::<6>::one().to()];
+    assert!(rt; ends == [0, 1]);
 }
