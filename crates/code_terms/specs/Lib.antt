@@ -1,4 +1,3 @@
-pub mod Product
 pub mod Symbols
 pub mod Words
 pub mod WordText

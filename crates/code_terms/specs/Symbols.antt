@@ -2,18 +2,13 @@
 -- Source: I. S. Reed and G. Solomon, Polynomial codes over certain finite fields, J. SIAM 8 (1960). That place i has
 -- the element of number i for its point, and how a number is cut into coefficients, is this project's own.
 use Rattle.std.specs.Prelude.{ℕ, zero, suc, ◌*◌, ◌/◌, ◌%◌, ◌^◌, bit_xor}
-use Rattle.code_terms.specs.Product.{product}
+use Rattle.gf_terms.specs.Arithmetic.{product, power}
 
 -- the coefficient at x^j of the message u: its bits mj to mj + m - 1
 abbrev pub coefficient : ℕ → ℕ → ℕ → ℕ
 coefficient m u j = (u / 2 ^ (m * j)) % 2 ^ m
 
--- x to the power j in GF(2^m), where 0^0 is 1
-unfoldable pub power : ℕ → ℕ → ℕ → ℕ
-power m x zero = 1
-power m x (suc j) = product m x (power m x j)
-
--- the symbol of the message u at place i: the sum of coefficient j times i^j, over the j below k
+-- the symbol of the message u at place i: the sum of coefficient j times i^j, over the j below k, where 0^0 is 1
 unfoldable pub symbol_of : ℕ → ℕ → ℕ → ℕ → ℕ
 symbol_of m zero u i = 0
 symbol_of m (suc j) u i = bit_xor (symbol_of m j u i) (product m (coefficient m u j) (power m i j))

@@ -1,7 +1,7 @@
 -- Words: at each place a symbol, or an erasure, which is `None`. Where a message agrees with a word.
 -- The agreement is what list decoders count; see V. Guruswami and M. Sudan, Improved decoding of Reed-Solomon and
 -- algebraic-geometry codes, IEEE Trans. Inform. Theory 45 (1999).
-use Rattle.std.specs.Prelude.{ℕ, Bool, false, List, [], ◌∷◌, length, Option, None, Some, is_some, slice_index_or, map, filter, count_by, ◌==◌}
+use Rattle.std.specs.Prelude.{ℕ, ◌<◌, Bool, false, List, [], ◌∷◌, length, Option, None, Some, is_some, IfSome, All, slice_index_or, map, filter, count_by, ◌==◌}
 use Rattle.std.specs.List.{range_with_len}
 use Rattle.code_terms.specs.Symbols.{symbol_of}
 
@@ -21,6 +21,10 @@ holds_symbol (Some w) v = w == v
 -- whether the word has at place i the symbol that the message u has there
 abbrev pub agrees : ℕ → ℕ → ℕ → List (Option ℕ) → ℕ → Bool
 agrees m k u word i = holds_symbol (slot_at word i) (symbol_of m k u i)
+
+-- every symbol of the word is below this limit
+abbrev pub HasSymbolsBelow : ℕ → List (Option ℕ) → Type 0
+HasSymbolsBelow limit word = All (λ slot. IfSome slot (λ v. v < limit)) word
 
 -- the places where they agree, in ascending order
 unfoldable pub places_of : ℕ → ℕ → ℕ → List (Option ℕ) → List ℕ

@@ -1,25 +1,25 @@
 -- Each by computing both sides.
 use Rattle.std.proofs.Common.{refl}
-use Rattle.code_terms.specs.Product.{carryless, reduced, product}
-use Rattle.code_terms.specs.Symbols.{power, symbol_of}
+use Rattle.gf_terms.specs.Arithmetic.{carryless, reduced, reduction, product, power}
+use Rattle.code_terms.specs.Symbols.{symbol_of}
 use Rattle.code_terms.specs.Words.{places_of, codeword_of}
 use Rattle.code_terms.specs.WordText.{slot_of, slots_from, word_of}
 use Rattle.code_terms.proofs.laws.worked_examples.Goals as goal
 
 pub returns-clause-codeword : goal.returns-clause-codeword
-unfolding carryless reduced product power symbol_of codeword_of
+unfolding carryless reduced reduction product power symbol_of codeword_of
 returns-clause-codeword c = refl
 
 pub returns-clause-places_0 : goal.returns-clause-places_0
-unfolding carryless reduced product power symbol_of places_of
+unfolding carryless reduced reduction product power symbol_of places_of
 returns-clause-places_0 c = refl
 
 pub returns-clause-places_1 : goal.returns-clause-places_1
-unfolding carryless reduced product power symbol_of places_of
+unfolding carryless reduced reduction product power symbol_of places_of
 returns-clause-places_1 c = refl
 
 pub returns-clause-places_16 : goal.returns-clause-places_16
-unfolding carryless reduced product power symbol_of places_of
+unfolding carryless reduced reduction product power symbol_of places_of
 returns-clause-places_16 c = refl
 
 pub returns-clause-text : goal.returns-clause-text

@@ -1,0 +1,3 @@
+pub mod WordShape
+pub mod CodeShape
+pub mod Reading
