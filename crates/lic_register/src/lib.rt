@@ -8,6 +8,7 @@ mod errors;
 mod licensee;
 mod reading;
 mod register;
+mod writing;
 
 pub use errors::{EnrolError, RegisterError, RegisterReadError};
 pub use licensee::Licensee;

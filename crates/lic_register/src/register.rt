@@ -6,6 +6,7 @@ ghost use Rattle.std.specs.Result.{result_err};
 ghost use Rattle.register_terms.specs.Enrolment.{serial_of, message_of, IsValid};
 ghost use Rattle.register_terms.specs.RegisterText.{refusal_of, with_name, are_bits, is_dimension};
 ghost use Rattle.lic_register.specs.Answers.{refused_by, empty_register, enrolment_of, EnrolsAs};
+ghost use Rattle.lic_register.specs.Index.{names_of};
 ghost use Rattle.lic_register.specs.Parts.{register_by, IsAllowed};
 ghost use Rattle.lic_register.specs.declared.errors.EnrolError.TheVariants as enrol_errors;
 
@@ -91,6 +92,25 @@ impl Register {
             licensees: Vec::new(alloc),
             serials: HashMap::new(alloc),
         }
+    }
+
+    /// The numbers of this register.
+    pub(crate) fn rule(&self) -> Rule
+        ensures { result ≡ record { bits = self.now.bits; dimension = self.now.dimension; multiplier = self.now.multiplier; shift = self.now.shift } }
+    {
+        Rule {
+            bits: self.bits,
+            dimension: self.dimension,
+            multiplier: self.multiplier,
+            shift: self.shift,
+        }
+    }
+
+    /// All licensees, in order of serial.
+    pub(crate) fn licensees(&self) -> &[Licensee]
+        ensures { names_of result.now ≡ self.now.names }
+    {
+        self.licensees.as_slice()
     }
 
     /// The bits of a symbol, 4 to 8.
