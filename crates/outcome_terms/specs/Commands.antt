@@ -1,6 +1,6 @@
 -- Which lists of words are commands. This project's own. A word that is a number is spelled as numbers are, and may be too
 -- large for the rule that it is tested by later; every other word after the command has the form of a blob's name.
-use Rattle.std.specs.Prelude.{ℕ, List, [], ◌∷◌, ◌&&◌, Option, Some, None, codes, if◌then◌else◌}
+use Rattle.std.specs.Prelude.{ℕ, List, [], ◌∷◌, Option, Some, None, codes, if◌then◌else◌}
 use Rattle.std.specs.Str.{bytes_eq}
 use Rattle.text_terms.specs.Numbers.{number_of}
 use Rattle.text_terms.specs.Names.{is_name}

@@ -28,9 +28,13 @@ abbrev pub ◌>>=◌ : {A B : Type 0} → Result A Refusal → (A → Result B R
 abbrev pub blob_limit : ℕ
 blob_limit = 67108864
 
+abbrev pub within_limit : List ℕ → Option (List ℕ) → Result (List ℕ) Refusal
+within_limit name None = Err (Missing name)
+within_limit name (Some bytes) = if nat_le (length bytes) blob_limit then Ok bytes else Err (TooLong name)
+
 -- the bytes under a name
 abbrev pub read_blob : Blobs → List ℕ → Result (List ℕ) Refusal
-read_blob blobs name = elim (blob_at blobs name) [ None ↦ Err (Missing name) | Some bytes ↦ if nat_le (length bytes) blob_limit then Ok bytes else Err (TooLong name) ]
+read_blob blobs name = within_limit name (blob_at blobs name)
 
 -- what a register's or a word's text gives, with its fault as a refusal
 abbrev pub register_or_refusal : Result Enrolment RegisterFault → Result Enrolment Refusal
@@ -57,13 +61,17 @@ read_word blobs name m = do
 unfoldable pub report_of : Enrolment → List (Option ℕ) → ℕ → Result (List ℕ) Refusal
 report_of e word c = if nat_le (readable word) (least_readable e c) then Err (TooFew (readable word) (least_readable e c)) else Ok (report_text (findings e word c))
 
+-- a bound that codes of dimension k allow
+abbrev pub allowed_bound : ℕ → ℕ → Result ℕ Refusal
+allowed_bound k c = if is_allowed_bound k c then Ok c else Err (BadBound c)
+
 -- `accuse`: the register, the bound, the word, the number of readable places
 unfoldable pub accuse_outcome : Blobs → List ℕ → List ℕ → ℕ → Result (List ℕ) Refusal
 accuse_outcome blobs register word c = do
   e ← read_register blobs register
-  _ ← (if is_allowed_bound e.dimension c then Ok c else Err (BadBound c))
+  bound ← allowed_bound e.dimension c
   slots ← read_word blobs word e.bits
-  report_of e slots c
+  report_of e slots bound
 
 -- `register`: the text of a register without licensees, or the first rule that its numbers break
 unfoldable pub make_outcome : ℕ → ℕ → ℕ → ℕ → Result (List ℕ) Refusal
@@ -111,6 +119,10 @@ request_outcome (Make m k a b out) blobs = writes_to blobs out (make_outcome m k
 request_outcome (Enrol register name out) blobs = writes_to blobs out (enrol_outcome blobs register name out)
 request_outcome (Accuse register word c) blobs = puts_out blobs (accuse_outcome blobs register word c)
 
+abbrev pub outcome_of : Option Request → Blobs → Result Effect Refusal
+outcome_of None blobs = Err BadWords
+outcome_of (Some request) blobs = request_outcome request blobs
+
 -- the outcome of a list of words
-unfoldable pub outcome : List (List ℕ) → Blobs → Result Effect Refusal
-outcome words blobs = elim (request_of words) [ None ↦ Err BadWords | Some request ↦ request_outcome request blobs ]
+abbrev pub outcome : List (List ℕ) → Blobs → Result Effect Refusal
+outcome words blobs = outcome_of (request_of words) blobs

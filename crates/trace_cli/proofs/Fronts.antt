@@ -26,20 +26,20 @@ front_told None (Some new) bytes text r same h = tt
 
 module _ (text : List ℕ) (rose : Type 0) where
   pub answer_done : (old new : Option (List ℕ)) (done : Unit {0}) → PutGives old new text (Ok done) → TellsOut (Ok text) status.Ok rose old new
-  answer_done (Some old) (Some new) done h = record { ends = inl refl; whole = λ _. h; fault = λ e. cc; memory = λ e. cc }
+  answer_done (Some old) (Some new) done h = record { whole = λ _. h; fault = λ e. cc; memory = λ e. cc }
   answer_done None None done h = tt
   answer_done (Some old) None done h = h
   answer_done None (Some new) done h = tt
 
   pub answer_fault : (old new : Option (List ℕ)) (e : SinkError) → PutGives old new text (Err e) → TellsOut (Ok text) status.OutFault rose old new
-  answer_fault (Some old) (Some new) e h = record { ends = inr (inl refl); whole = λ e. cc; fault = λ _. h; memory = λ e. cc }
+  answer_fault (Some old) (Some new) e h = record { whole = λ e. cc; fault = λ _. h; memory = λ e. cc }
   answer_fault None None e h = tt
   answer_fault (Some old) None e h = h
   answer_fault None (Some new) e h = tt
 
   pub answer_memory : (old between new : Option (List ℕ)) (e : SinkError) → PutGives old between text (Err e) → TellsFront memory_line between new → TellsOut (Ok text) status.Memory rose old new
   answer_memory (Some old) (Some between) (Some new) e h g =
-      record { ends = inr (inr refl); whole = λ e. cc; fault = λ e. cc; memory = λ _. record { between = between; first_put = h; second_put = g } }
+      record { whole = λ e. cc; fault = λ e. cc; memory = λ _. record { between = between; first_put = h; second_put = g } }
   answer_memory None None new e h g = tt
   answer_memory (Some old) None new e h g = absurd h
   answer_memory None (Some between) new e h g = tt
@@ -51,7 +51,7 @@ module _ (e : Refusal) (rose : Type 0) where
   pub line_done : (old new : Option (List ℕ)) (line : List ℕ) (done : Unit {0}) → line ≡ error_text e → PutGives old new line (Ok done) → TellsOut (Err e) (refusal_status e) rose old new
   line_done (Some old) (Some new) line done same h =
       let all : new ≡ old ++ error_text e = h ∙ ap (λ t. old ++ t) same in
-      record { ends = inl refl; front = λ _. puts_whole old new (error_text e) all; whole = λ _ _. all; memory = λ _. inl (puts_whole old new (error_text e) all) }
+      record { front = λ _. puts_whole old new (error_text e) all; whole = λ _ _. all; memory = λ _. inl (puts_whole old new (error_text e) all) }
   line_done None None line done same h = tt
   line_done (Some old) None line done same h = h
   line_done None (Some new) line done same h = tt
@@ -59,7 +59,7 @@ module _ (e : Refusal) (rose : Type 0) where
   pub line_fault : (old new : Option (List ℕ)) (line : List ℕ) (f : SinkError) → line ≡ error_text e → rose → PutGives old new line (Err f) → TellsOut (Err e) (refusal_status e) rose old new
   line_fault (Some old) (Some new) line f same up h =
       let front : Puts old new (error_text e) = subst (λ t. Puts old new t) same h in
-      record { ends = inl refl; front = λ _. front; whole = λ _ calm. absurd (calm up); memory = λ _. inl front }
+      record { front = λ _. front; whole = λ _ calm. absurd (calm up); memory = λ _. inl front }
   line_fault None None line f same up h = tt
   line_fault (Some old) None line f same up h = h
   line_fault None (Some new) line f same up h = tt
@@ -67,13 +67,13 @@ module _ (e : Refusal) (rose : Type 0) where
   pub line_memory : (old new : Option (List ℕ)) (line : List ℕ) (f : SinkError) → line ≡ error_text e → PutGives old new line (Err f) → TellsOut (Err e) status.Memory rose old new
   line_memory (Some old) (Some new) line f same h =
       let front : Puts old new (error_text e) = subst (λ t. Puts old new t) same h in
-      record { ends = inr refl; front = λ not. absurd (not refl); whole = λ not _. absurd (not refl); memory = λ _. inl front }
+      record { front = λ not. absurd (not refl); whole = λ not _. absurd (not refl); memory = λ _. inl front }
   line_memory None None line f same h = tt
   line_memory (Some old) None line f same h = h
   line_memory None (Some new) line f same h = tt
 
   -- no line could be made
   pub no_line : (old new : Option (List ℕ)) → TellsFront memory_line old new → TellsOut (Err e) status.Memory rose old new
-  no_line (Some old) (Some new) h = record { ends = inr refl; front = λ not. absurd (not refl); whole = λ not _. absurd (not refl); memory = λ _. inr h }
+  no_line (Some old) (Some new) h = record { front = λ not. absurd (not refl); whole = λ not _. absurd (not refl); memory = λ _. inr h }
   no_line None new h = tt
   no_line (Some old) None h = h

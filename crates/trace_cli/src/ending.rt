@@ -2,7 +2,7 @@
 
 ghost use Rattle.std.specs.Prelude.{◌≡◌, ◌≤◌};
 ghost use Rattle.shelf_terms.specs.Counts.{Rose};
-ghost use Rattle.outcome_terms.specs.Endings.{TellsOut, TellsFront, memory_line, answer_by};
+ghost use Rattle.outcome_terms.specs.Endings.{Follows, TellsOut, TellsFront, memory_line};
 
 use crate::refusal_line::{refusal_line, status_of};
 use cli_words::Status;
@@ -13,20 +13,10 @@ use std::alloc::Global;
 /// The error line for want of memory, which takes none.
 const MEMORY_LINE: &[u8] = b"error 1 memory\n";
 
-/// Puts out the answer of a command, or the error line of its refusal.
-pub fn finish<O: Sink>(alloc: Global, answer: Result<Vec<u8>, Refusal>, out: &mut O) -> Status
-    ensures out { TellsOut (answer_by (λ text. text.items) answer) result (Rose (O.faults out.old) (O.faults out.new)) (O.written out.old) (O.written out.new) }
-    ensures fault { result ≡ Status.OutFault → Rose (O.faults out.old) (O.faults out.new) }
-{
-    match answer {
-        Ok(text) => put_answer(text.as_slice(), out),
-        Err(refusal) => put_refusal(alloc, &refusal, out),
-    }
-}
-
-fn put_answer<O: Sink>(text: &[u8], out: &mut O) -> Status
+/// Puts out the answer of a command.
+pub fn put_answer<O: Sink>(text: &[u8], out: &mut O) -> Status
+    ensures follows { Follows (Ok text.now) result (Rose (O.faults out.old) (O.faults out.new)) }
     ensures out { TellsOut (Ok text.now) result (Rose (O.faults out.old) (O.faults out.new)) (O.written out.old) (O.written out.new) }
-    ensures fault { result ≡ Status.OutFault → Rose (O.faults out.old) (O.faults out.new) }
 {
     match out.put(text) {
         Ok(()) => Status::Ok,
@@ -35,10 +25,10 @@ fn put_answer<O: Sink>(text: &[u8], out: &mut O) -> Status
     }
 }
 
-/// Puts out the error line of a refusal. Also called for a command that puts nothing out when it is done.
+/// Puts out the error line of a refusal.
 pub fn put_refusal<O: Sink>(alloc: Global, refusal: &Refusal, out: &mut O) -> Status
+    ensures follows { Follows (Err refusal.now) result (Rose (O.faults out.old) (O.faults out.new)) }
     ensures out { TellsOut (Err refusal.now) result (Rose (O.faults out.old) (O.faults out.new)) (O.written out.old) (O.written out.new) }
-    ensures never_fault { result ≡ Status.OutFault → ⊥ }
 {
     let Ok(line) = refusal_line(alloc, refusal) else {
         return put_memory_line(out);
