@@ -14,3 +14,6 @@ pub use errors::{EnrolError, RegisterError, RegisterReadError};
 pub use licensee::Licensee;
 pub use register::Register;
 pub use register_terms::{RegisterFault, RegisterKind};
+
+#[cfg(test)]
+mod tests;
