@@ -2,3 +2,5 @@ pub mod Places
 pub mod Serials
 pub mod Growing
 pub mod Lines
+pub mod Fields
+pub mod Read

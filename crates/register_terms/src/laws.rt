@@ -1,7 +1,7 @@
 //! The laws of registers and their texts: each is the contract of a function that does nothing.
 
-ghost use Rattle.std.specs.Prelude.{◌≡◌, List, [], ◌∷◌, ◌++◌, ℕ, codes, Ok, Err};
-ghost use Rattle.register_terms.specs.Enrolment.{Enrolment};
+ghost use Rattle.std.specs.Prelude.{◌↔◌, ◌≡◌, List, [], ◌∷◌, ◌++◌, ℕ, codes, Ok, Err};
+ghost use Rattle.register_terms.specs.Enrolment.{Enrolment, IsValid, message_of, serial_of};
 ghost use Rattle.register_terms.specs.RegisterText.{register_text, register_of, fault};
 ghost use Rattle.register_terms.specs.declared.fault.RegisterKind.TheVariants.{Ending, Header, BadM, NameTaken};
 
@@ -14,4 +14,12 @@ pub fn worked_examples()
     ensures cut_between { register_of (codes "register 1\nm 4\nk 2\n") ≡ Err (fault 4 Header) }
     ensures cut_within { register_of (codes "register 1\nm 4\nk") ≡ Err (fault 3 Ending) }
     ensures empty { register_of [] ≡ Err (fault 1 Header) }
+{}
+
+/// A text is read as a register exactly where it is the text of that register, and the register is valid.
+///
+/// So what is written is read again as itself, and no register has two texts.
+pub fn texts_are_registers()
+    ensures exact { (bytes : List ℕ) (e : Enrolment) → (register_of bytes ≡ Ok e) ↔ (IsValid e × (bytes ≡ register_text e)) }
+    ensures again { (e : Enrolment) → IsValid e → register_of (register_text e) ≡ Ok e }
 {}

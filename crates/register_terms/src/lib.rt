@@ -8,4 +8,4 @@ mod fault;
 mod laws;
 
 pub use fault::{RegisterFault, RegisterKind};
-pub use laws::worked_examples;
+pub use laws::{texts_are_registers, worked_examples};
