@@ -1,3 +1,4 @@
 pub mod SlotLaws
 pub mod Evaluation
 pub mod PlaceLaws
+pub mod Packing

@@ -1,7 +1,7 @@
 -- What follows of the places where a message and a word agree.
 use Rattle.std.proofs.Common.{◌≡◌, ℕ, zero, suc, ◌+◌, true, false, List, [], ◌∷◌, ◌++◌, length, Option, Some, cond, refl, sym, ap, ◌∙◌, add-one, zero-add, arith}
 use Rattle.std.specs.List.{filter, range_with_len}
-use Rattle.std.proofs.lemmas.List.FromFn.{map-range_with_len_more}
+use Rattle.std.proofs.lemmas.List.FromFn.{map-range_with_len_more, length-map-range_with_len}
 use Rattle.std.proofs.lemmas.List.Elements.{filter-append}
 use Rattle.std.proofs.lemmas.List.{append-nil, length_push}
 use Rattle.code_terms.specs.Symbols.{symbol_of}
@@ -47,3 +47,7 @@ length-places_below-miss m k u word n miss =
 pub length-places_below-all : (m k u : ℕ) (word : List (Option ℕ)) (n : ℕ) → length word ≡ n → length (places_below m k u word n) ≡ agreement_of m k u word
 unfolding agreement_of
 length-places_below-all m k u word n is = ap length (places_below-all m k u word n is)
+
+pub length-codeword_of : (m k u n : ℕ) → length (codeword_of m k u n) ≡ n
+unfolding codeword_of
+length-codeword_of m k u n = length-map-range_with_len (λ i. Some (symbol_of m k u i)) 0 n

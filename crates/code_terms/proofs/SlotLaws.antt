@@ -1,5 +1,5 @@
 -- What the slots are that a text spells.
-use Rattle.std.proofs.Common.{◌≡◌, ℕ, ◌<◌, Bool, true, false, List, [], ◌∷◌, ◌++◌, Some, None, Option, IfSome, refl, subst}
+use Rattle.std.proofs.Common.{arith, ◌≡◌, ℕ, ◌<◌, Bool, true, false, List, [], ◌∷◌, ◌++◌, Some, None, Option, IfSome, refl, subst}
 use Rattle.std.specs.Prelude.{if◌then◌else◌, nat_lt, bytes_eq}
 use Rattle.std.proofs.lemmas.Bool.{leb-true}
 use Rattle.std.proofs.lemmas.List.Elements.{All-push}
@@ -27,3 +27,6 @@ slot_of-below limit token slot is = by (bytes_eq token (45 ∷ [])) is
 -- one more slot with a symbol below the limit
 pub HasSymbolsBelow-push : (limit : ℕ) (word : List (Option ℕ)) (slot : Option ℕ) → HasSymbolsBelow limit word → IfSome slot (λ v. v < limit) → HasSymbolsBelow limit (word ++ slot ∷ [])
 HasSymbolsBelow-push limit word slot before here = All-push (λ s. IfSome s (λ v. v < limit)) word slot before here
+
+pub HasSymbolsBelow-none : (limit : ℕ) → HasSymbolsBelow limit []
+HasSymbolsBelow-none limit k d within = absurd (omega arith)

@@ -2,3 +2,4 @@ pub mod Slots
 pub mod Turns
 pub mod NumberTexts
 pub mod FieldSize
+pub mod Coefficients

@@ -1,15 +1,15 @@
 //! Codes: the symbols of a message, and where it agrees with a word.
 
-ghost use Rattle.std.specs.Prelude.{◌≡◌, ◌⊎◌, ◌↔◌, ◌+◌, ◌-◌, ◌*◌, ◌^◌, ◌<◌, ◌≤◌, IsTrue, IfOk, IsErrOf, OnOk, length, [], ◌∷◌, ◌++◌, if◌then◌else◌};
-ghost use Rattle.code_terms.specs.Symbols.{coefficient, symbol_of};
+ghost use Rattle.std.specs.Prelude.{◌≡◌, ◌⊎◌, ◌↔◌, ◌+◌, ◌-◌, ◌*◌, ◌^◌, ◌<◌, ◌≤◌, IsTrue, IfOk, IsErrOf, OnOk, ℕ, length, map, slice_index, [], ◌∷◌, ◌++◌, if◌then◌else◌};
+ghost use Rattle.code_terms.specs.Symbols.{coefficient, symbol_of, packed};
 ghost use Rattle.code_terms.specs.Words.{agrees, places_of, agreement_of, codeword_of};
 ghost use Rattle.rs_code.specs.CodeShape.{CodeShape};
 
 use crate::Places;
 use crate::code_error::CodeError;
-use crate::word::Word;
+use crate::word::{Word, append};
 use code_terms::Message;
-use gf2m::{Field, Ledger, Steps};
+use gf2m::{Elements, Field, Ledger, Steps};
 use lists::Items;
 use shelf_io::Memory;
 use std::alloc::{AllocError, Global};
@@ -130,6 +130,36 @@ impl<F: Field> Code<F> {
         Ok(Items::over(places))
     }
 
+    /// The message's symbols at all places, in order.
+    pub fn codeword<P: Ledger>(
+        &self,
+        alloc: Global,
+        message: Message,
+        prods: &mut Steps<P>,
+    ) -> Result<Word, Memory>
+        requires { message < 2 ^ (F.BITS * self.now.dimension) }
+        ensures value { IfOk result (λ word. word ≡ codeword_of F.BITS self.now.dimension message self.now.places) }
+        ensures products { prods.new ≤ prods.old + self.now.places * self.now.dimension }
+    {
+        let mut slots = Vec::new(alloc);
+        for place in 0..self.places {
+            let symbol = self.symbol(message, place, prods);
+            append(&mut slots, Some(symbol.to()))?;
+        }
+        Ok(Word::over(slots))
+    }
+
+    /// The message with these coefficients, of which the first is that at x^0; those that are missing are 0.
+    pub fn pack(&self, coefs: &Elements<F>) -> Message
+        requires { length coefs.now ≤ self.now.dimension }
+        ensures value { result ≡ packed F.BITS (map F.number coefs.now) }
+        ensures small { result < 2 ^ (F.BITS * self.now.dimension) }
+        ensures coefficients { (j : ℕ) → coefficient F.BITS result j ≡ slice_index (map F.number coefs.now) j }
+    {
+        let _dimension = self.dimension;
+        Message::of(packed_number(coefs.as_slice()))
+    }
+
     // Whether the word has the message's symbol at this place.
     fn agrees<P: Ledger>(
         &self,
@@ -165,6 +195,18 @@ fn point<F: Field>(place: u32) -> F
     ensures { F.number result ≡ place }
 {
     F::of(place as u8).unwrap()
+}
+
+// The number of the message with these coefficients.
+fn packed_number<F: Field>(coefs: &[F]) -> u128
+    requires { length coefs.now ≤ 13 }
+    ensures { result ≡ packed F.BITS (map F.number coefs.now) }
+{
+    let mut number: u128 = 0;
+    'coefficients: for j in (0..coefs.len()).rev() {
+        number = number * F::Q as u128 + coefs[j].to() as u128;
+    }
+    number
 }
 
 // Puts the place behind the others where it is one of them.

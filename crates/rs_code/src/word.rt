@@ -70,7 +70,7 @@ impl Word {
 }
 
 // Puts one more slot behind the others.
-fn append(slots: &mut Vec<Option<u8>>, slot: Option<u8>) -> Result<(), AllocError>
+pub(crate) fn append(slots: &mut Vec<Option<u8>>, slot: Option<u8>) -> Result<(), AllocError>
     ensures appended { OnOk result (slots.new.items ≡ slots.old.items ++ slot ∷ []) }
     ensures byte { IfSome slot (λ v. v < 256) }
 {
