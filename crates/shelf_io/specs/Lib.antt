@@ -5,3 +5,4 @@ pub mod Plan
 pub mod MemSink
 pub mod BlobList
 pub mod MemShelf
+pub mod Folder

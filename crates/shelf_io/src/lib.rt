@@ -4,6 +4,8 @@
 mod blob_list;
 mod call_plan;
 mod errors;
+mod folder_name;
+mod folder_shelf;
 mod mem_shelf;
 mod mem_sink;
 mod name_buffer;
@@ -11,9 +13,11 @@ mod names;
 mod numbers;
 mod shelf;
 mod sink;
+mod std_sink;
 mod whole;
 
 pub use errors::{FetchError, ShelfError, SinkError};
+pub use folder_shelf::FolderShelf;
 pub use lists::{Memory, Text};
 pub use mem_shelf::MemShelf;
 pub use mem_sink::MemSink;
@@ -21,4 +25,5 @@ pub use names::{is_name, is_plain};
 pub use numbers::{number_text, read_number};
 pub use shelf::Shelf;
 pub use sink::Sink;
+pub use std_sink::StdSink;
 pub use whole::fetch;

@@ -1,0 +1,155 @@
+//! A store of files under a folder.
+
+ghost use Rattle.std.specs.Prelude.{◌≡◌, ◌≤◌, [], ℕ, List, length, IfOk, IsTrue, None, Err, true};
+ghost use Rattle.text_terms.specs.Names.{is_name};
+ghost use Rattle.shelf_terms.specs.Counts.{tally};
+ghost use Rattle.shelf_terms.specs.Causes.{ReadCauses, WriteCauses};
+ghost use Rattle.shelf_io.specs.Folder.{after_read, after_written, leaves_folder};
+ghost use Rattle.shelf_io.specs.Reads.{PartGives, part_failed, part_missed};
+ghost use Rattle.shelf_io.specs.Writes.{WriteGives, write_failed};
+
+use crate::errors::ShelfError;
+use crate::folder_name::leaves_folder;
+use crate::name_buffer::NameBuffer;
+use crate::shelf::Shelf;
+use lists::Text;
+use std::alloc::{AllocError, Global};
+use std::fs::File;
+use std::io::{Read, Seek};
+use std::marker::Model;
+use std::rt::Files;
+use std::{fs, io};
+
+/// A store of files under a folder, which tells no contents: what it reads and writes is the system's.
+///
+/// It refuses a name that leaves the folder without touching the disk. Only a file that is not there is
+/// missing; every other error of the system is a fault, but for want of memory.
+#[derive(Drop)]
+pub struct FolderShelf<R: Files + Drop> {
+    runtime: R,
+    folder: Text,
+    faults: u64,
+    misses: u64,
+    write_faults: u64,
+    blamed: NameBuffer,
+}
+
+impl<R: Files + Drop> Model for FolderShelf<R> {
+    ghost use Rattle.shelf_io.specs.Folder.{FolderShelfView};
+
+    ghost Value = { FolderShelfView };
+
+    ghost view = { λ s. record { faults = s.faults; misses = s.misses; write_faults = s.write_faults; blamed = s.blamed } };
+}
+
+impl<R: Files + Drop> FolderShelf<R> {
+    /// The files under this folder. Nothing is read yet.
+    pub fn new(runtime: R, folder: Text) -> Self
+        ensures { result ≡ record { faults = 0; misses = 0; write_faults = 0; blamed = [] } }
+    {
+        FolderShelf {
+            runtime,
+            folder,
+            faults: 0,
+            misses: 0,
+            write_faults: 0,
+            blamed: NameBuffer::new(),
+        }
+    }
+}
+
+impl<R: Files + Drop> Shelf for FolderShelf<R> {
+    ghost use Rattle.std.specs.Prelude.{None};
+
+    ghost holds = { λ _. None };
+
+    ghost faults = { λ s. s.faults };
+
+    ghost misses = { λ s. s.misses };
+
+    ghost write_faults = { λ s. s.write_faults };
+
+    ghost blamed = { λ s. s.blamed };
+
+    fn part(
+        &mut self,
+        alloc: Global,
+        name: &str,
+        from: u64,
+        most: usize,
+    ) -> Result<Vec<u8>, ShelfError>
+        requires name { IsTrue (is_name name.now) }
+        requires some { 1 ≤ most }
+        ensures most { IfOk result (λ part. length part.items ≤ most) }
+        ensures causes { ReadCauses (tally (λ s. s.faults) (λ s. s.misses) (λ s. s.write_faults) (λ s. s.blamed) self.old)
+            (tally (λ s. s.faults) (λ s. s.misses) (λ s. s.write_faults) (λ s. s.blamed) self.new) name.now (part_failed result) (part_missed result) }
+        ensures after { self.new ≡ after_read self.old name.now (part_failed result) (part_missed result) }
+        ensures refused { leaves_folder name.now ≡ true → result ≡ Err ShelfError.Missing }
+    {
+        if leaves_folder(name) {
+            self.misses = self.misses.saturating_add(1);
+            return Err(ShelfError::Missing);
+        }
+        let path = path_of(alloc, self.folder.as_str(), name)?;
+        let mut part = vec![in alloc; 0u8; most]?;
+        match read_at(&self.runtime, path.as_str(), from, part.as_mut_slice()) {
+            Ok(count) => {
+                part.truncate(count);
+                Ok(part)
+            }
+            Err(error) => match error.kind() {
+                io::ErrorKind::NotFound => {
+                    self.misses = self.misses.saturating_add(1);
+                    Err(ShelfError::Missing)
+                }
+                io::ErrorKind::OutOfMemory => Err(ShelfError::Memory),
+                _ => {
+                    self.faults = self.faults.saturating_add(1);
+                    self.blamed.set(name);
+                    Err(ShelfError::Fault)
+                }
+            },
+        }
+    }
+
+    fn write(&mut self, alloc: Global, name: &str, bytes: &[u8]) -> Result<(), ShelfError>
+        requires { IsTrue (is_name name.now) }
+        ensures never_missing { result ≡ Err ShelfError.Missing → ⊥ }
+        ensures causes { WriteCauses (tally (λ s. s.faults) (λ s. s.misses) (λ s. s.write_faults) (λ s. s.blamed) self.old)
+            (tally (λ s. s.faults) (λ s. s.misses) (λ s. s.write_faults) (λ s. s.blamed) self.new) (write_failed result) }
+        ensures after { self.new ≡ after_written self.old (write_failed result) }
+        ensures refused { leaves_folder name.now ≡ true → result ≡ Err ShelfError.Fault }
+    {
+        if leaves_folder(name) {
+            self.write_faults = self.write_faults.saturating_add(1);
+            return Err(ShelfError::Fault);
+        }
+        let path = path_of(alloc, self.folder.as_str(), name)?;
+        match fs::write(&self.runtime, path.as_str(), bytes) {
+            Ok(()) => Ok(()),
+            Err(error) => match error.kind() {
+                io::ErrorKind::OutOfMemory => Err(ShelfError::Memory),
+                _ => {
+                    self.write_faults = self.write_faults.saturating_add(1);
+                    Err(ShelfError::Fault)
+                }
+            },
+        }
+    }
+}
+
+fn path_of(alloc: Global, folder: &str, name: &str) -> Result<String, AllocError> {
+    let mut path = String::from_str(alloc, folder)?;
+    path.push('/')?;
+    path.push_str(name)?;
+    Ok(path)
+}
+
+/// Reads bytes of the file from a place on, and says how many.
+fn read_at<R: Files>(runtime: &R, path: &str, from: u64, buffer: &mut [u8]) -> io::Result<usize>
+    ensures { IfOk result (λ count. count ≤ length buffer.old) }
+{
+    let mut file = File::open(runtime, path)?;
+    file.seek(io::SeekFrom::Start(from))?;
+    file.read(buffer)
+}
