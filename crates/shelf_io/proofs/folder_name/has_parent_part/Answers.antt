@@ -7,5 +7,5 @@ use Rattle.shelf_io.proofs.folder_name.has_parent_part.Goals as goal
 pub returns : goal.returns
 returns c =
     any_from_yields_List (λ part. bytes_eq part (codes "..")) _ _ _ c.any.ensures.ran
-      (YieldsList-from_str_split 47 c.args.name.now (lit< tt) c.split.ensures.text c.split.ensures.has_more c.split.ensures.pattern)
-      (λ x b q called. search rules)
+    (YieldsList-from_str_split 47 c.args.name.now (lit< tt) c.split.ensures.text c.split.ensures.has_more c.split.ensures.pattern)
+    (λ x b q called. search rules)
