@@ -4,3 +4,4 @@ pub mod Growing
 pub mod Lines
 pub mod Fields
 pub mod Read
+pub mod Messages

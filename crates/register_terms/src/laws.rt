@@ -1,6 +1,6 @@
 //! The laws of registers and their texts: each is the contract of a function that does nothing.
 
-ghost use Rattle.std.specs.Prelude.{◌↔◌, ◌≡◌, List, [], ◌∷◌, ◌++◌, ℕ, codes, Ok, Err};
+ghost use Rattle.std.specs.Prelude.{◌↔◌, ◌≡◌, ◌<◌, ◌*◌, ◌^◌, length, slice_get, Some, List, [], ◌∷◌, ◌++◌, ℕ, codes, Ok, Err};
 ghost use Rattle.register_terms.specs.Enrolment.{Enrolment, IsValid, message_of, serial_of};
 ghost use Rattle.register_terms.specs.RegisterText.{register_text, register_of, fault};
 ghost use Rattle.register_terms.specs.declared.fault.RegisterKind.TheVariants.{Ending, Header, BadM, NameTaken};
@@ -22,4 +22,15 @@ pub fn worked_examples()
 pub fn texts_are_registers()
     ensures exact { (bytes : List ℕ) (e : Enrolment) → (register_of bytes ≡ Ok e) ↔ (IsValid e × (bytes ≡ register_text e)) }
     ensures again { (e : Enrolment) → IsValid e → register_of (register_text e) ≡ Ok e }
+{}
+
+/// In a valid register the messages of different serials differ, and each message is below the number of messages.
+pub fn messages_differ()
+    ensures apart { (e : Enrolment) → IsValid e → (i j : ℕ) → i < length e.names → j < length e.names → message_of e i ≡ message_of e j → i ≡ j }
+    ensures below { (e : Enrolment) → IsValid e → (serial : ℕ) → message_of e serial < 2 ^ (e.bits * e.dimension) }
+{}
+
+/// In a valid register a name has a serial exactly where the licensee of that serial has the name.
+pub fn names_tell_serials()
+    ensures { (e : Enrolment) → IsValid e → (name : List ℕ) (serial : ℕ) → (serial_of e.names name ≡ Some serial) ↔ (slice_get e.names serial ≡ Some name) }
 {}

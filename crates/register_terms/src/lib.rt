@@ -8,4 +8,4 @@ mod fault;
 mod laws;
 
 pub use fault::{RegisterFault, RegisterKind};
-pub use laws::{texts_are_registers, worked_examples};
+pub use laws::{messages_differ, names_tell_serials, texts_are_registers, worked_examples};
