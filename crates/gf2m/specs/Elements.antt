@@ -27,6 +27,10 @@ module _ (m : ℕ) (low : 4 ≤ m) (high : m ≤ 8) where
   abbrev pub times : Gf m → Gf m → Gf m
   times x y = element m (product m x.value y.value) (closed m low high x.value y.value x.in_range y.in_range)
 
+  -- x with factor times y added
+  abbrev pub with_multiple : Gf m → Gf m → Gf m → Gf m
+  with_multiple factor x y = plus m x (times factor y)
+
   abbrev pub nil : Gf m
   nil = element m 0 (zero_below m low high)
 

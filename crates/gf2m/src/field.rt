@@ -14,7 +14,7 @@ ghost use Rattle.std.specs.Prelude.{
   length,
   true,
 };
-ghost use lib.Lanes.{zip2};
+ghost use Rattle.std.specs.Simd.Lanes.{zip2};
 ghost use Rattle.algebra.specs.Ring.{IsField, Ring};
 ghost use Rattle.gf_terms.specs.Arithmetic.{product};
 

@@ -2,7 +2,7 @@
 
 use crate::field::Field;
 use crate::gf::Gf;
-use crate::operations;
+use crate::{operations, slices};
 use steps::{Ledger, Steps};
 
 impl Field for Gf<4> {
@@ -55,7 +55,7 @@ impl Field for Gf<4> {
         factor: Self,
         prods: &mut Steps<P>,
     ) {
-        operations::add_multiple(target, source, factor, prods)
+        slices::add_multiple(target, source, factor, prods)
     }
 
     ghost field = { field 4 (lit≤ tt) (lit≤ tt) };
@@ -133,7 +133,7 @@ impl Field for Gf<5> {
         factor: Self,
         prods: &mut Steps<P>,
     ) {
-        operations::add_multiple(target, source, factor, prods)
+        slices::add_multiple(target, source, factor, prods)
     }
 
     ghost field = { field 5 (lit≤ tt) (lit≤ tt) };
@@ -211,7 +211,7 @@ impl Field for Gf<6> {
         factor: Self,
         prods: &mut Steps<P>,
     ) {
-        operations::add_multiple(target, source, factor, prods)
+        slices::add_multiple(target, source, factor, prods)
     }
 
     ghost field = { field 6 (lit≤ tt) (lit≤ tt) };
@@ -289,7 +289,7 @@ impl Field for Gf<7> {
         factor: Self,
         prods: &mut Steps<P>,
     ) {
-        operations::add_multiple(target, source, factor, prods)
+        slices::add_multiple(target, source, factor, prods)
     }
 
     ghost field = { field 7 (lit≤ tt) (lit≤ tt) };
@@ -367,7 +367,7 @@ impl Field for Gf<8> {
         factor: Self,
         prods: &mut Steps<P>,
     ) {
-        operations::add_multiple(target, source, factor, prods)
+        slices::add_multiple(target, source, factor, prods)
     }
 
     ghost field = { field 8 (lit≤ tt) (lit≤ tt) };

@@ -6,6 +6,7 @@ mod field;
 mod fields;
 mod gf;
 mod operations;
+mod slices;
 mod tables;
 
 pub use field::Field;

@@ -11,7 +11,6 @@ ghost use Rattle.std.specs.Prelude.{
   IfSome,
   length,
 };
-ghost use lib.Lanes.{zip2};
 ghost use Rattle.gf2m.specs.Elements.{nil, plus, times, unit};
 
 use crate::arithmetic::{inverse_of, product_of};
@@ -88,27 +87,4 @@ pub fn inverse<const M: u32, P: Ledger>(x: Gf<M>, prods: &mut Steps<P>) -> Optio
     Some(Gf {
         value: inverse_of::<M>(x.value),
     })
-}
-
-/// Adds a multiple of each element of `source` to that of `target` at the same place.
-pub fn add_multiple<const M: u32, P: Ledger>(
-    target: &mut [Gf<M>],
-    source: &[Gf<M>],
-    factor: Gf<M>,
-    prods: &mut Steps<P>,
-)
-    requires low { 4 ≤ M }
-    requires high { M ≤ 8 }
-    requires same { length target.old ≡ length source.now }
-    ensures value { (low : 4 ≤ M) (high : M ≤ 8) →
-        target.new ≡ zip2 (λ x y. plus M x (times M low high factor.entry y)) target.old source.now }
-    ensures ticks { prods.new ≡ prods.old + length source.now }
-{
-    prods.add(source.len() as u64);
-    for (place, x) in target.iter_mut().enumerate() {
-        let multiple = product_of::<M>(factor.value, source[place].value);
-        *x = Gf {
-            value: x.value ^ multiple,
-        };
-    }
 }
