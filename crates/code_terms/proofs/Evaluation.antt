@@ -2,10 +2,10 @@
 use Rattle.std.proofs.Common.{◌≡◌, ℕ, zero, suc, ◌+◌, ◌-◌, ◌^◌, ◌<◌, ◌≤◌, refl, sym, ap, ap₂, ◌∙◌, add-zero, zero-add, arith}
 use Rattle.std.proofs.lemmas.Nat.{pow_pos, pow_below}
 use Rattle.std.specs.Prelude.{bit_xor}
-use lib.Bits.{xor_zero_l, xor_comm, xor_assoc}
+use lib.Bits.{xor_zero_l, xor_comm, xor_assoc, xor_lt}
 use Rattle.gf_terms.specs.Arithmetic.{product, power}
 use Rattle.gf_terms.proofs.Linear.{plus_product, zero_product}
-use Rattle.gf_terms.proofs.Field.{product_comm, product_assoc, one_product, power_below}
+use Rattle.gf_terms.proofs.Field.{closed, product_comm, product_assoc, one_product, power_below}
 use Rattle.code_terms.specs.Symbols.{coefficient, symbol_of}
 
 -- the value at x of the n coefficients of u from j on: those behind the first times x, and the first
@@ -77,3 +77,11 @@ module _ (m : ℕ) (low : 4 ≤ m) (high : m ≤ 8) where
   -- nested products give the symbol
   pub nested-symbol_of : (u x k : ℕ) → x < 2 ^ m → nested m u x 0 k ≡ symbol_of m k u x
   nested-symbol_of u x k xs = nested-sum_from u x 0 k xs ∙ symbol_of-sum_from u x k
+
+  -- a symbol is a number below 2^m
+  pub symbol_of-below : (u x k : ℕ) → x < 2 ^ m → symbol_of m k u x < 2 ^ m
+  unfolding symbol_of
+  symbol_of-below u x zero xs = pow_pos m
+  symbol_of-below u x (suc k) xs =
+      xor_lt m (symbol_of m k u x) (product m (coefficient m u k) (power m x k)) (symbol_of-below u x k xs)
+      (closed m low high (coefficient m u k) (power m x k) (coefficient_below m u k) (power_below m low high x k xs))

@@ -1,8 +1,9 @@
 //! What is proved of the definitions alone.
 
-ghost use Rattle.std.specs.Prelude.{◌≡◌, [], ◌∷◌, map, replicate, Option, Some, None, Ok, Err, codes};
+ghost use Rattle.std.specs.Prelude.{◌≡◌, ℕ, ◌^◌, ◌<◌, ◌≤◌, List, [], ◌∷◌, length, map, All, Option, Some, None, Ok, Err, codes};
+ghost use Rattle.std.specs.List.Sorted.{IsStrictlyIncreasing};
 ghost use Rattle.code_terms.specs.Symbols.{symbol_of};
-ghost use Rattle.code_terms.specs.Words.{readable, places_of, agreement_of, codeword_of, three_colluders};
+ghost use Rattle.code_terms.specs.Words.{readable, places_of, agreement_of, codeword_of, HasSymbolsBelow, three_colluders};
 ghost use Rattle.code_terms.specs.WordText.{word_of};
 
 use crate::word_fault::WordFault;
@@ -21,4 +22,23 @@ pub fn worked_examples()
     ensures too_great { word_of 4 (codes "0,16,2") ≡ Err (WordFault.Token 1) }
     ensures empty { word_of 4 [] ≡ Err (WordFault.Token 0) }
     ensures too_long { word_of 4 (codes "0,0,0,0,0,0,0,0,0,0,0,0,0,0,0,0,0") ≡ Err WordFault.Long }
+{}
+
+/// The agreeing places are places of the word, each of them once, in ascending order, and no more than are readable.
+pub fn places_are_places()
+    ensures within { (m k u : ℕ) (word : List (Option ℕ)) → All (λ i. i < length word) (places_of m k u word) }
+    ensures ascending { (m k u : ℕ) (word : List (Option ℕ)) → IsStrictlyIncreasing (places_of m k u word) }
+    ensures readable { (m k u : ℕ) (word : List (Option ℕ)) → agreement_of m k u word ≤ readable word }
+    ensures few { (word : List (Option ℕ)) → readable word ≤ length word }
+{}
+
+/// A word that a text spells over symbols of m bits has at most 2^m places, and its symbols are below 2^m.
+pub fn texts_spell_words()
+    ensures places { (m : ℕ) (bytes : List ℕ) (word : List (Option ℕ)) → word_of m bytes ≡ Ok word → length word ≤ 2 ^ m }
+    ensures symbols { (m : ℕ) (bytes : List ℕ) (word : List (Option ℕ)) → word_of m bytes ≡ Ok word → HasSymbolsBelow (2 ^ m) word }
+{}
+
+/// Symbols of messages are numbers below 2^m, at each of the 2^m points.
+pub fn symbols_are_symbols()
+    ensures { (m k u i : ℕ) → 4 ≤ m → m ≤ 8 → i < 2 ^ m → symbol_of m k u i < 2 ^ m }
 {}
