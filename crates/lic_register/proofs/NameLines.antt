@@ -1,10 +1,12 @@
 -- Reading the names one after the other: what a refused line leaves, and what an enrolled one does.
-use Rattle.std.proofs.Common.{◌≡◌, ℕ, List, ◌∷◌, Result, Ok, refl}
+use Rattle.std.proofs.Common.{◌≡◌, ℕ, List, ◌∷◌, Result, Ok, Err, refl}
 use Rattle.register_terms.specs.declared.fault.RegisterFault.{RegisterFault}
-use Rattle.register_terms.specs.Enrolment.{Enrolment}
-use Rattle.register_terms.specs.RegisterText.{◌>>=◌, parts_of, names_at, enrolled_at, refusal_of}
+use Rattle.register_terms.specs.Enrolment.{Enrolment, IsValid}
+use Rattle.register_terms.specs.RegisterText.{◌>>=◌, parts_of, names_at, enrolled_at, refusal_of, register_of, register_text}
+use Rattle.std.specs.Result.{IfOk}
+use Rattle.register_terms.proofs.Read.{read_was_written}
 use Rattle.register_terms.proofs.Lines.{names_at-line}
-use Rattle.lic_register.specs.Answers.{IsRefused}
+use Rattle.lic_register.specs.Answers.{IsRefused, ReadsAs}
 use Rattle.lic_register.specs.declared.errors.RegisterReadError.{RegisterReadError}
 use Rattle.lic_register.specs.declared.errors.RegisterReadError.TheVariants as read_errors
 
@@ -23,3 +25,8 @@ pub enrolled_line : (register grown : Enrolment) (rest text after : List ℕ) (t
     → enrolled_at register text (refusal_of register text) ≡ Ok grown → names_at register (parts_of rest) ≡ total → names_at grown (parts_of after) ≡ total
 enrolled_line register grown rest text after total cut enrolled so_far =
     rw (← so_far, cut, names_at-line register text after, enrolled) refl
+
+-- what is read is a valid register, and the bytes are its text
+pub is_text : (bytes : List ℕ) (answer : Result Enrolment RegisterReadError) → ReadsAs answer (register_of bytes) → IfOk answer (λ e. IsValid e × (bytes ≡ register_text e))
+is_text bytes (Ok e) reads = let text = read_was_written bytes e reads in (text.valid, text.text)
+is_text bytes (Err refusal) reads = tt

@@ -3,7 +3,8 @@
 ghost use Rattle.std.specs.Prelude.{◌≡◌, ◌<◌, length, IfOk, IfSome, MatchOption, MatchResult, Ok, [], ◌∷◌, ◌==◌};
 ghost use Rattle.std.specs.List.{position};
 ghost use Rattle.text_terms.specs.Numbers.{number_of};
-ghost use Rattle.register_terms.specs.RegisterText.{parts_of, line_at, form_line_at, number_line_at, number_after, header_at, names_at, register_of, enrolled_at, refusal_of};
+ghost use Rattle.register_terms.specs.RegisterText.{parts_of, line_at, form_line_at, number_line_at, number_after, header_at, register_of, register_text, enrolled_at, refusal_of};
+ghost use Rattle.register_terms.specs.Enrolment.{Enrolment, IsValid};
 ghost use Rattle.lic_register.specs.Answers.{ReadsAs, IsRefused};
 ghost use Rattle.lic_register.specs.Parts.{Finds, register_by, IsAllowed};
 
@@ -20,21 +21,33 @@ const HEADER_LINES: u32 = 5;
 impl Register {
     /// The register that the bytes are the text of. It takes no look.
     pub fn read(alloc: Global, bytes: &[u8]) -> Result<Register, RegisterReadError>
+        // Which register it is, or which fault.
         ensures answer { ReadsAs result (register_of bytes.now) }
+        // What is read is valid, and the bytes are its text.
+        ensures found { IfOk result (λ register. IsValid register × (bytes.now ≡ register_text register)) }
+        // The text of a valid register is read, unless memory runs out.
+        ensures every { (e : Enrolment) → IsValid e → bytes.now ≡ register_text e → ReadsAs result (Ok e) }
     {
-        let (rule, names) = header(bytes)?;
-        let mut register = Register::by_rule(alloc, rule);
-        let mut rest = names;
-        while !rest.is_empty() {
-            let line = register.len() + HEADER_LINES + 1;
-            let Some((text, after)) = cut_line(rest) else {
-                return Err(fault(line, RegisterKind::Ending).into());
-            };
-            enrol_line(&mut register, text)?;
-            rest = after;
-        }
-        Ok(register)
+        register_in(alloc, bytes)
     }
+}
+
+/// The register by the header, with the name on each line after it.
+fn register_in(alloc: Global, bytes: &[u8]) -> Result<Register, RegisterReadError>
+    ensures { ReadsAs result (register_of bytes.now) }
+{
+    let (rule, names) = header(bytes)?;
+    let mut register = Register::by_rule(alloc, rule);
+    let mut rest = names;
+    while !rest.is_empty() {
+        let line = register.len() + HEADER_LINES + 1;
+        let Some((text, after)) = cut_line(rest) else {
+            return Err(fault(line, RegisterKind::Ending).into());
+        };
+        enrol_line(&mut register, text)?;
+        rest = after;
+    }
+    Ok(register)
 }
 
 /// Enrols the name that stands on the next line.

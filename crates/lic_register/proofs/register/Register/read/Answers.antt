@@ -1,28 +1,13 @@
-use Rattle.std.proofs.Common.{Err, ap, sym, ◌∙◌, ◌≡◌, ◌<◌, length, arith}
-use Rattle.std.proofs.lemmas.Bool.Decides.{nat_tests}
-use Rattle.std.proofs.lemmas.Result.{err_from_is_err_and}
-use Rattle.register_terms.specs.RegisterText.{fault, register_of}
-use Rattle.register_terms.specs.declared.fault.RegisterKind.TheVariants.{Ending}
-use Rattle.register_terms.proofs.Lines.{names_at-unended, names_at-end}
-use Rattle.lic_register.proofs.NameLines.{refused_line, enrolled_line}
+use Rattle.std.proofs.Common.{ap, subst, ◌∙◌}
+use Rattle.register_terms.specs.RegisterText.{register_of}
+use Rattle.register_terms.proofs.Read.{written_is_read}
+use Rattle.lic_register.specs.Answers.{ReadsAs}
+use Rattle.lic_register.proofs.NameLines.{is_text}
 use Rattle.lic_register.proofs.register.Register.read.Goals as goal
 
-pub returns-in_default : goal.returns-in_default
-returns-in_default c =
-    let some : 0 < length c.loop-rest.rest.now = grind (arith, nat_tests) in
-    let unended = names_at-unended c.loop-rest.register c.loop-rest.rest.now some in
-    record { answer = rw (c.into.ensures, c.fault.ensures, ← c.loop-rest.invariant, c.in_default.ensures.parts, unended, c.len.ensures.number) (ap (λ n. Err (fault n Ending)) (omega arith)) }
+pub returns-clause-found : goal.returns-clause-found
+returns-clause-found c = is_text c.args.bytes.now c.register_in.result c.register_in.ensures
 
-pub returns-in_err-enrol_line : goal.returns-in_err-enrol_line
-returns-in_err-enrol_line c =
-    let p = err_from_is_err_and c.from_residual-in_err-enrol_line.result c.from_residual-in_err-enrol_line.ensures.1 in
-    record { answer = rw (p.1, p.2) (refused_line c.in_err-enrol_line.field-0.0 c.loop-rest.register c.loop-rest.rest.now c.in-Some.text.now c.in-Some.after.now (register_of c.args.bytes.now) c.in-Some.ensures.parts c.in_err-enrol_line.ensures c.loop-rest.invariant) }
-
-pub loop-rest-preserved : goal.loop-rest-preserved
-loop-rest-preserved c =
-    enrolled_line c.loop-rest.register c.enrol_line.new.register c.loop-rest.rest.now c.in-Some.text.now c.in-Some.after.now (register_of c.args.bytes.now) c.in-Some.ensures.parts c.in_ok-enrol_line.ensures c.loop-rest.invariant
-
-pub returns : goal.returns
-returns c =
-    let none : length c.loop-rest.rest.now ≡ 0 = grind (arith, nat_tests) in
-    record { answer = sym c.loop-rest.invariant ∙ names_at-end c.loop-rest.register c.loop-rest.rest.now none }
+pub returns-clause-every : goal.returns-clause-every
+returns-clause-every c =
+    λ e valid is. subst (ReadsAs c.register_in.result) (ap register_of is ∙ written_is_read e valid) c.register_in.ensures
