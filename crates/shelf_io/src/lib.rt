@@ -14,6 +14,8 @@ mod numbers;
 mod shelf;
 mod sink;
 mod std_sink;
+#[cfg(test)]
+mod tests;
 mod whole;
 
 pub use errors::{FetchError, ShelfError, SinkError};
