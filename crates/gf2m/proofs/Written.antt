@@ -28,6 +28,7 @@ record Tested (m : ℕ) (powers logs : List ℕ) : Type 0 where
   logs_whole : length logs ≡ 2 ^ m
   doubled : are_doublings m 1 powers ≡ true
   undone : undo m powers logs ≡ true
+  zero_below : nat_lt (get_or logs 0 0) (2 ^ m - 1) ≡ true
 
 are_powers : (m : ℕ) (powers logs : List ℕ) → Tested m powers logs → ArePowers m powers
 unfolding power
@@ -44,10 +45,14 @@ log_at m powers logs h (suc x) p below =
     let t = both (nat_lt (get_or logs (suc x) 0) (2 ^ m - 1)) (get_or powers (get_or logs (suc x) 0) 0 == suc x) (at_below (2 ^ m - 1) f h x (omega arith)) in
     (ltb-true (get_or logs (suc x) 0) (2 ^ m - 1) t.0, eqb-true (get_or powers (get_or logs (suc x) 0) 0) (suc x) t.1)
 
+log_below : (m : ℕ) (powers logs : List ℕ) → Tested m powers logs → (x : ℕ) → x < 2 ^ m → get_or logs x 0 < 2 ^ m - 1
+log_below m powers logs t zero h = ltb-true (get_or logs 0 0) (2 ^ m - 1) t.zero_below
+log_below m powers logs t (suc x) h = (log_at m powers logs t.undone (suc x) (omega arith) h).0
+
 are_logarithms : (m : ℕ) (powers logs : List ℕ) → Tested m powers logs → AreLogarithms m logs
 are_logarithms m powers logs t = record {
   whole = t.logs_whole;
-  below = λ x p h. (log_at m powers logs t.undone x p h).0;
+  below = log_below m powers logs t;
   each = λ x p h.
       let a = log_at m powers logs t.undone x p h in
       let b : get_or logs x 0 < 2 ^ m - 1 = a.0 in
@@ -56,23 +61,23 @@ are_logarithms m powers logs t = record {
 
 tested_4 : Tested 4 EXPONENTS_4 LOGARITHMS_4
 unfolding product reduced carryless reduction each_below are_doublings undo
-tested_4 = record { whole = refl; logs_whole = refl; doubled = refl; undone = refl }
+tested_4 = record { whole = refl; logs_whole = refl; doubled = refl; undone = refl; zero_below = refl }
 
 tested_5 : Tested 5 EXPONENTS_5 LOGARITHMS_5
 unfolding product reduced carryless reduction each_below are_doublings undo
-tested_5 = record { whole = refl; logs_whole = refl; doubled = refl; undone = refl }
+tested_5 = record { whole = refl; logs_whole = refl; doubled = refl; undone = refl; zero_below = refl }
 
 tested_6 : Tested 6 EXPONENTS_6 LOGARITHMS_6
 unfolding product reduced carryless reduction each_below are_doublings undo
-tested_6 = record { whole = refl; logs_whole = refl; doubled = refl; undone = refl }
+tested_6 = record { whole = refl; logs_whole = refl; doubled = refl; undone = refl; zero_below = refl }
 
 tested_7 : Tested 7 EXPONENTS_7 LOGARITHMS_7
 unfolding product reduced carryless reduction each_below are_doublings undo
-tested_7 = record { whole = refl; logs_whole = refl; doubled = refl; undone = refl }
+tested_7 = record { whole = refl; logs_whole = refl; doubled = refl; undone = refl; zero_below = refl }
 
 tested_8 : Tested 8 EXPONENTS_8 LOGARITHMS_8
 unfolding product reduced carryless reduction each_below are_doublings undo
-tested_8 = record { whole = refl; logs_whole = refl; doubled = refl; undone = refl }
+tested_8 = record { whole = refl; logs_whole = refl; doubled = refl; undone = refl; zero_below = refl }
 
 pub powers_4 : ArePowers 4 EXPONENTS_4
 powers_4 = are_powers 4 EXPONENTS_4 LOGARITHMS_4 tested_4

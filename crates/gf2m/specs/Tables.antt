@@ -7,8 +7,8 @@ pub record ArePowers (m : ℕ) (table : List ℕ) : Type 0 where
   pub whole : length table ≡ 2 * (2 ^ m - 1)
   pub each : (i : ℕ) → i < 2 * (2 ^ m - 1) → slice_index table i ≡ power m 2 i
 
--- at x, the exponent with which 2 gives x in GF(2^m)
+-- at x, the exponent with which 2 gives x in GF(2^m); at 0, any exponent
 pub record AreLogarithms (m : ℕ) (table : List ℕ) : Type 0 where
   pub whole : length table ≡ 2 ^ m
-  pub below : (x : ℕ) → 0 < x → x < 2 ^ m → slice_index table x < 2 ^ m - 1
+  pub below : (x : ℕ) → x < 2 ^ m → slice_index table x < 2 ^ m - 1
   pub each : (x : ℕ) → 0 < x → x < 2 ^ m → power m 2 (slice_index table x) ≡ x

@@ -45,12 +45,13 @@ pub fn product_of<const M: u32>(x: u8, y: u8) -> u8
     ensures value { result ≡ product M x y }
     ensures below { result < 2 ^ M }
 {
+    let logarithms = logarithms::<M>();
+    let exponent = logarithms[x as usize] as usize + logarithms[y as usize] as usize;
+    let product = exponents::<M>()[exponent];
     if x == 0 || y == 0 {
         return 0;
     }
-    let logarithms = logarithms::<M>();
-    let exponent = logarithms[x as usize] as usize + logarithms[y as usize] as usize;
-    exponents::<M>()[exponent]
+    product
 }
 
 /// The number whose product with x, which is not 0, is 1.

@@ -19,7 +19,4 @@ returns-clause-value g c =
     product_by_tables g.row.M c.requires.low c.requires.high c.exponents.result.now c.logarithms-logarithms.result.now c.exponents.ensures c.logarithms-logarithms.ensures c.args.x c.args.y px py c.requires.left c.requires.right
 
 pub returns-clause-below : goal.returns-clause-below
-returns-clause-below g c =
-    let px : 0 < c.args.x = omega arith in
-    let py : 0 < c.args.y = omega arith in
-    product_below g.row.M c.requires.low c.requires.high c.exponents.result.now c.logarithms-logarithms.result.now c.exponents.ensures c.logarithms-logarithms.ensures c.args.x c.args.y px py c.requires.left c.requires.right
+returns-clause-below g c = product_below g.row.M c.requires.low c.requires.high c.exponents.result.now c.logarithms-logarithms.result.now c.exponents.ensures c.logarithms-logarithms.ensures c.args.x c.args.y c.requires.left c.requires.right
