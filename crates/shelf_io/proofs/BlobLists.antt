@@ -1,10 +1,11 @@
 -- A list of blobs, one for each name, as a map.
-use Rattle.std.proofs.Common.{one-add, ◌≡◌, ◌∙◌, sym, ap, ap₂, ℕ, ◌+◌, ◌<◌, ◌≤◌, Bool, true, false, cond, not, List, [], ◌∷◌, ◌++◌, map, length, get_or, set, Some, None, refl, arith, nat_cmp, nat_lt, position}
+use Rattle.std.proofs.Common.{Option, one-add, ◌≡◌, ◌∙◌, sym, ap, ap₂, ℕ, ◌+◌, ◌<◌, ◌≤◌, Bool, true, false, cond, not, List, [], ◌∷◌, ◌++◌, map, length, get_or, set, Some, None, refl, arith, nat_cmp, nat_lt, position}
 use Rattle.std.specs.List.{position_or_len}
 use Rattle.std.specs.Str.{bytes_eq}
 use Rattle.std.specs.Ordering.{eq_by_cmp}
 use Rattle.std.specs.Cmp.Lexicographic.{slice_cmp}
 use Rattle.std.specs.FinMap.{IsAntisymmetric, from_entries, insert, get, find, same_map, get-insert, get-from_entries, from_entries_push, slice_cmp-IsAntisymmetric, nat_cmp-IsAntisymmetric}
+use Rattle.shelf_io.specs.declared.blob_list.Blob.{Blob}
 use Rattle.std.proofs.lemmas.Bool.{ltb-true, ltb-false}
 use Rattle.std.proofs.lemmas.List.{map-append}
 use Rattle.std.proofs.lemmas.List.Quantifiers.{position-Some}
@@ -130,3 +131,15 @@ module _ {B : Type 0} (name bytes : B → List ℕ) where
   -- the blob that stands there has the name
   pub name_found : (xs : List B) (key : List ℕ) (i : ℕ) (d : B) → position (is_at key) xs ≡ Some i → name (get_or xs i d) ≡ key
   name_found xs key i d at = sym (same_text key (name (get_or xs i d)) (position-Some (is_at key) xs i d at).1)
+
+-- the name and the bytes of a blob
+abbrev pub name_of : Blob → List ℕ
+name_of blob = blob.name
+
+abbrev pub bytes_of : Blob → List ℕ
+bytes_of blob = blob.bytes.items
+
+-- where a search over a slice of the list stopped
+pub searched : (key : List ℕ) (items slice : List Blob) (place : Option ℕ) → slice ≡ items → place ≡ position (is_at name_of bytes_of key) slice
+    → position (is_at name_of bytes_of key) items ≡ place
+searched key items slice place same is = sym (is ∙ ap (position (is_at name_of bytes_of key)) same)

@@ -38,10 +38,10 @@ pub front_none : (told : Option Blobs) (name : List ℕ) → IsFront told name [
 front_none told name = record { front = λ blobs blob is held. refl }
 
 -- a front and the part behind it are a longer front
-pub front_more : (told now : Option Blobs) (name whole part bytes : List ℕ) (from most : ℕ) → now ≡ told → from ≡ length whole
-    → IsFront told name whole → IfSome now (λ blobs. HasPart blobs name from most part) → bytes ≡ whole ++ part → IsFront told name bytes
-front_more told now name whole part bytes from most same here known got grown =
-    subst (IsFront told name) (sym grown) (record {
+pub front_more : (told now : Option Blobs) (name whole part more bytes : List ℕ) (from most : ℕ) → now ≡ told → from ≡ length whole
+    → IsFront told name whole → IfSome now (λ blobs. HasPart blobs name from most part) → more ≡ part → bytes ≡ whole ++ more → IsFront told name bytes
+front_more told now name whole part more bytes from most same here known got read grown =
+    subst (IsFront told name) (sym (grown ∙ ap (λ b. whole ++ b) read)) (record {
       front = λ blobs blob is held.
           front_grows blob whole part most (known.front blobs blob is held)
           (told_part told now name from most part same got blobs blob is held ∙ ap (λ n. part_of blob n most) here);

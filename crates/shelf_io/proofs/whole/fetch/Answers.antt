@@ -1,4 +1,4 @@
-use Rattle.std.proofs.Common.{◌≡◌, ◌∙◌, sym, ap, vec_len, ◌++◌, ◌<◌, ◌+◌, length, arith}
+use Rattle.std.proofs.Common.{◌≡◌, ◌∙◌, sym, vec_len, ◌<◌, ◌+◌, length, arith}
 use Rattle.std.proofs.lemmas.Bool.{eqb-true, eqb-false}
 use Rattle.shelf_terms.proofs.CausesLemmas.{reads_then}
 use Rattle.shelf_io.proofs.Fronts.{front_more, front_ends, front_passes}
@@ -25,12 +25,11 @@ returns-then-len-limit-clause-bytes g c =
 pub parts-preserved : goal.parts-preserved
 parts-preserved g c =
     let here : c.len.result ≡ length c.parts.whole.items = omega arith in
-    let grown : c.extend_from_slice.new.self.items ≡ c.parts.whole.items ++ c.in-Ok.part.items =
-    c.in_ok-extend_from_slice.ensures.items ∙ ap (λ more. c.parts.whole.items ++ more) c.as_slice.ensures.value in
     record {
       short = omega (arith, c.in_ok-extend_from_slice.ensures.len);
       same = c.part.ensures.same ∙ c.parts.invariant.same;
-      front = front_more _ _ c.args.name.now c.parts.whole.items c.in-Ok.part.items _ c.len.result 65536
-          c.parts.invariant.same here c.parts.invariant.front c.in-Ok.ensures.bytes grown;
+      front = front_more _ _ c.args.name.now c.parts.whole.items c.in-Ok.part.items _ _ c.len.result 65536
+          c.parts.invariant.same here c.parts.invariant.front c.in-Ok.ensures.bytes
+          c.as_slice.ensures.value c.in_ok-extend_from_slice.ensures.items;
       causes = reads_then c.parts.invariant.causes c.in-Ok.ensures.causes;
     }
