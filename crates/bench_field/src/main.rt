@@ -48,11 +48,13 @@ fn elements<F: Field>(alloc: Global, count: u32, step: u32) -> Result<Vec<F>, Al
 }
 
 /// Sums of products, each round's put among the factors of the next.
-fn products<F: Field, P: Ledger>(xs: &mut [F], ys: &[F], rounds: u32, prods: &mut Steps<P>) {
+fn products<F: Field, P: Ledger>(xs: &mut [F], ys: &[F], rounds: u32, prods: &mut Steps<P>)
+    requires { length xs.old ≡ length ys.now }
+{
     let mut sum = F::zero();
     for round in 0..rounds {
-        for (x, y) in xs.iter().zip(ys) {
-            sum = sum.add(x.mul(*y, prods));
+        for place in 0..ys.len() {
+            sum = sum.add(xs[place].mul(ys[place], prods));
         }
         if let Some(x) = xs.get_mut(round as usize % 64) {
             *x = sum;
@@ -86,10 +88,12 @@ fn run<F: Field, P: Ledger>(
 ) -> Result<u32, AllocError> {
     let mut xs = elements::<F>(alloc, job.length, 7)?;
     let ys = elements::<F>(alloc, job.length, 11)?;
-    if job.slices && xs.len() == ys.len() {
-        slices(&mut xs, &ys, job.rounds, prods);
-    } else {
-        products(&mut xs, &ys, job.rounds, prods);
+    if xs.len() == ys.len() {
+        if job.slices {
+            slices(&mut xs, &ys, job.rounds, prods);
+        } else {
+            products(&mut xs, &ys, job.rounds, prods);
+        }
     }
     Ok(checksum(&xs))
 }

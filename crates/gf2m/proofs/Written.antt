@@ -1,6 +1,8 @@
 -- The written tables: each power is twice the one before, and powers and logarithms undo each other, by computing.
-use Rattle.std.proofs.Common.{◌≡◌, ℕ, zero, suc, ◌+◌, ◌*◌, ◌-◌, ◌^◌, ◌<◌, ◌==◌, ◌&&◌, Bool, true, List, [], ◌∷◌, length, get_or, refl, sym, ◌∙◌, ap, arith}
+use Rattle.std.proofs.Common.{◌≡◌, ℕ, zero, suc, ◌+◌, ◌*◌, ◌-◌, ◌^◌, ◌<◌, ◌≤◌, ◌==◌, ◌&&◌, Bool, true, List, [], ◌∷◌, length, take, drop, get_or, refl, sym, ◌∙◌, ap, arith}
 use Rattle.std.specs.Prelude.{nat_lt}
+use Rattle.std.proofs.Common.{length-take}
+use Rattle.std.proofs.lemmas.List.{get_or-take, get_or-drop}
 use Rattle.std.proofs.lemmas.Bool.{eqb-true, ltb-true}
 use Rattle.gf_terms.specs.Arithmetic.{carryless, reduced, reduction, product, power}
 use Rattle.gf_terms.proofs.Basis.{each_below, at_below, both}
@@ -23,18 +25,37 @@ power_at m i (y ∷ ys) h (suc k) below =
 unfoldable undo : (m : ℕ) → (powers logs : List ℕ) → Bool
 undo m powers logs = each_below (2 ^ m - 1) (λ x. nat_lt (get_or logs (suc x) 0) (2 ^ m - 1) && (get_or powers (get_or logs (suc x) 0) 0 == suc x))
 
+unfoldable are_zeros : List ℕ → Bool
+are_zeros [] = true
+are_zeros (y ∷ ys) = (y == 0) && are_zeros ys
+
+zero_at : (ys : List ℕ) → are_zeros ys ≡ true → (k : ℕ) → get_or ys k 0 ≡ 0
+unfolding are_zeros
+zero_at [] h k = refl
+zero_at (y ∷ ys) h zero = eqb-true y 0 (both (y == 0) (are_zeros ys) h).0
+zero_at (y ∷ ys) h (suc k) = zero_at ys (both (y == 0) (are_zeros ys) h).1 k
+
 record Tested (m : ℕ) (powers logs : List ℕ) : Type 0 where
-  whole : length powers ≡ 2 * (2 ^ m - 1)
+  whole : length powers ≡ 4 * (2 ^ m - 1) + 1
   logs_whole : length logs ≡ 2 ^ m
-  doubled : are_doublings m 1 powers ≡ true
+  doubled : are_doublings m 1 (take (2 * (2 ^ m - 1)) powers) ≡ true
+  zeros : are_zeros (drop (2 * (2 ^ m - 1)) powers) ≡ true
   undone : undo m powers logs ≡ true
-  zero_below : nat_lt (get_or logs 0 0) (2 ^ m - 1) ≡ true
+  zero_at_zero : get_or logs 0 0 ≡ 2 * (2 ^ m - 1)
 
 are_powers : (m : ℕ) (powers logs : List ℕ) → Tested m powers logs → ArePowers m powers
 unfolding power
 are_powers m powers logs t = record {
   whole = t.whole;
-  each = λ i h. power_at m 0 powers t.doubled i (omega (arith, t.whole)) ∙ ap (power m 2) (let e : 0 + i ≡ i = omega arith in e);
+  each = λ i h.
+      let n : ℕ = 2 * (2 ^ m - 1) in
+      let long : length powers ≡ 4 * (2 ^ m - 1) + 1 = t.whole in
+      let inside : i < length (take n powers) = omega (arith, length-take n powers) in
+      sym (get_or-take n powers i 0 h) ∙ power_at m 0 (take n powers) t.doubled i inside ∙ ap (power m 2) (let e : 0 + i ≡ i = omega arith in e);
+  zeros = λ i h.
+      let n : ℕ = 2 * (2 ^ m - 1) in
+      let e : i ≡ n + (i - n) = omega arith in
+      ap (λ k. get_or powers k 0) e ∙ sym (get_or-drop n powers (i - n) 0) ∙ zero_at (drop n powers) t.zeros (i - n);
 }
 
 log_at : (m : ℕ) (powers logs : List ℕ) → undo m powers logs ≡ true → (x : ℕ) → 0 < x → x < 2 ^ m → (get_or logs x 0 < 2 ^ m - 1) × (get_or powers (get_or logs x 0) 0 ≡ x)
@@ -45,39 +66,41 @@ log_at m powers logs h (suc x) p below =
     let t = both (nat_lt (get_or logs (suc x) 0) (2 ^ m - 1)) (get_or powers (get_or logs (suc x) 0) 0 == suc x) (at_below (2 ^ m - 1) f h x (omega arith)) in
     (ltb-true (get_or logs (suc x) 0) (2 ^ m - 1) t.0, eqb-true (get_or powers (get_or logs (suc x) 0) 0) (suc x) t.1)
 
-log_below : (m : ℕ) (powers logs : List ℕ) → Tested m powers logs → (x : ℕ) → x < 2 ^ m → get_or logs x 0 < 2 ^ m - 1
-log_below m powers logs t zero h = ltb-true (get_or logs 0 0) (2 ^ m - 1) t.zero_below
-log_below m powers logs t (suc x) h = (log_at m powers logs t.undone (suc x) (omega arith) h).0
+log_most : (m : ℕ) (powers logs : List ℕ) → Tested m powers logs → (x : ℕ) → x < 2 ^ m → get_or logs x 0 ≤ 2 * (2 ^ m - 1)
+log_most m powers logs t zero h = omega (arith, t.zero_at_zero)
+log_most m powers logs t (suc x) h = let b : get_or logs (suc x) 0 < 2 ^ m - 1 = (log_at m powers logs t.undone (suc x) (omega arith) h).0 in omega arith
 
 are_logarithms : (m : ℕ) (powers logs : List ℕ) → Tested m powers logs → AreLogarithms m logs
 are_logarithms m powers logs t = record {
   whole = t.logs_whole;
-  below = log_below m powers logs t;
+  below = λ x p h. (log_at m powers logs t.undone x p h).0;
   each = λ x p h.
       let a = log_at m powers logs t.undone x p h in
       let b : get_or logs x 0 < 2 ^ m - 1 = a.0 in
       sym ((are_powers m powers logs t).each (get_or logs x 0) (omega arith)) ∙ a.1;
+  zero = t.zero_at_zero;
+  most = log_most m powers logs t;
 }
 
 tested_4 : Tested 4 EXPONENTS_4 LOGARITHMS_4
-unfolding product reduced carryless reduction each_below are_doublings undo
-tested_4 = record { whole = refl; logs_whole = refl; doubled = refl; undone = refl; zero_below = refl }
+unfolding product reduced carryless reduction each_below are_doublings are_zeros undo
+tested_4 = record { whole = refl; logs_whole = refl; doubled = refl; zeros = refl; undone = refl; zero_at_zero = refl }
 
 tested_5 : Tested 5 EXPONENTS_5 LOGARITHMS_5
-unfolding product reduced carryless reduction each_below are_doublings undo
-tested_5 = record { whole = refl; logs_whole = refl; doubled = refl; undone = refl; zero_below = refl }
+unfolding product reduced carryless reduction each_below are_doublings are_zeros undo
+tested_5 = record { whole = refl; logs_whole = refl; doubled = refl; zeros = refl; undone = refl; zero_at_zero = refl }
 
 tested_6 : Tested 6 EXPONENTS_6 LOGARITHMS_6
-unfolding product reduced carryless reduction each_below are_doublings undo
-tested_6 = record { whole = refl; logs_whole = refl; doubled = refl; undone = refl; zero_below = refl }
+unfolding product reduced carryless reduction each_below are_doublings are_zeros undo
+tested_6 = record { whole = refl; logs_whole = refl; doubled = refl; zeros = refl; undone = refl; zero_at_zero = refl }
 
 tested_7 : Tested 7 EXPONENTS_7 LOGARITHMS_7
-unfolding product reduced carryless reduction each_below are_doublings undo
-tested_7 = record { whole = refl; logs_whole = refl; doubled = refl; undone = refl; zero_below = refl }
+unfolding product reduced carryless reduction each_below are_doublings are_zeros undo
+tested_7 = record { whole = refl; logs_whole = refl; doubled = refl; zeros = refl; undone = refl; zero_at_zero = refl }
 
 tested_8 : Tested 8 EXPONENTS_8 LOGARITHMS_8
-unfolding product reduced carryless reduction each_below are_doublings undo
-tested_8 = record { whole = refl; logs_whole = refl; doubled = refl; undone = refl; zero_below = refl }
+unfolding product reduced carryless reduction each_below are_doublings are_zeros undo
+tested_8 = record { whole = refl; logs_whole = refl; doubled = refl; zeros = refl; undone = refl; zero_at_zero = refl }
 
 pub powers_4 : ArePowers 4 EXPONENTS_4
 powers_4 = are_powers 4 EXPONENTS_4 LOGARITHMS_4 tested_4

@@ -6,7 +6,7 @@ ghost use Rattle.gf2m.specs.Tables.{AreLogarithms, ArePowers};
 
 use crate::tables;
 
-/// The powers of 2, twice round.
+/// The powers of 2, twice round, and zeros.
 fn exponents<const M: u32>() -> &'static [u8]
     requires low { 4 ≤ M }
     requires high { M ≤ 8 }
@@ -21,8 +21,8 @@ fn exponents<const M: u32>() -> &'static [u8]
     }
 }
 
-/// The exponent with which 2 gives each number but 0.
-fn logarithms<const M: u32>() -> &'static [u8]
+/// The exponent with which 2 gives each number, and for 0 the place of a zero.
+fn logarithms<const M: u32>() -> &'static [u16]
     requires low { 4 ≤ M }
     requires high { M ≤ 8 }
     ensures { AreLogarithms M result.now }
@@ -47,11 +47,7 @@ pub fn product_of<const M: u32>(x: u8, y: u8) -> u8
 {
     let logarithms = logarithms::<M>();
     let exponent = logarithms[x as usize] as usize + logarithms[y as usize] as usize;
-    let product = exponents::<M>()[exponent];
-    if x == 0 || y == 0 {
-        return 0;
-    }
-    product
+    exponents::<M>()[exponent]
 }
 
 /// The number whose product with x, which is not 0, is 1.
