@@ -3,7 +3,7 @@ use Rattle.std.specs.Prelude.{◌≡◌, Result, None, Ok, Err}
 use Rattle.register_terms.specs.declared.fault.RegisterFault.{RegisterFault}
 use Rattle.register_terms.specs.Enrolment.{Enrolment}
 use Rattle.lic_register.specs.Answers.{empty_register, refused_by}
-use Rattle.lic_register.specs.declared.register.Rule.{Rule}
+use Rattle.lic_register.specs.declared.rule.Rule.{Rule}
 
 -- what was found, seen so, or the fault
 abbrev pub Finds : {X Y : Type 0} → (X → Y) → Result X RegisterFault → Result Y RegisterFault → Type 0

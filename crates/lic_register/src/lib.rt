@@ -8,6 +8,7 @@ mod errors;
 mod licensee;
 mod reading;
 mod register;
+mod rule;
 mod writing;
 
 pub use errors::{EnrolError, RegisterError, RegisterReadError};

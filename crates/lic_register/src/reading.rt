@@ -1,6 +1,6 @@
 //! A register from its text.
 
-ghost use Rattle.std.specs.Prelude.{◌≡◌, ◌<◌, length, IfOk, IfSome, MatchOption, MatchResult, Ok, [], ◌∷◌, ◌==◌};
+ghost use Rattle.std.specs.Prelude.{◌≡◌, ◌<◌, length, IfOk, IfSome, MatchOption, MatchResult, Ok, [], ◌∷◌, ◌==◌, ◌+◌};
 ghost use Rattle.std.specs.List.{position};
 ghost use Rattle.text_terms.specs.Numbers.{number_of};
 ghost use Rattle.register_terms.specs.RegisterText.{parts_of, line_at, form_line_at, number_line_at, number_after, header_at, register_of, register_text, enrolled_at, refusal_of};
@@ -9,14 +9,15 @@ ghost use Rattle.lic_register.specs.Answers.{ReadsAs, IsRefused};
 ghost use Rattle.lic_register.specs.Parts.{Finds, register_by, IsAllowed};
 
 use crate::errors::{EnrolError, RegisterReadError};
-use crate::register::{Register, Rule, are_bits, is_dimension, is_multiplier, message_count};
+use crate::register::Register;
+use crate::rule::{Rule, are_bits, is_dimension, is_multiplier, message_count};
 use register_terms::{RegisterFault, RegisterKind};
 use shelf_io::read_number;
 use std::alloc::Global;
 use std::str;
 
-/// The number of the line before the first name.
-const HEADER_LINES: u32 = 5;
+/// The number of the line on which the first licensee's name stands.
+const FIRST_NAME_LINE: u32 = 6;
 
 impl Register {
     /// The register that the bytes are the text of. It takes no look.
@@ -40,7 +41,7 @@ fn register_in(alloc: Global, bytes: &[u8]) -> Result<Register, RegisterReadErro
     let mut register = Register::by_rule(alloc, rule);
     let mut rest = names;
     while !rest.is_empty() {
-        let line = register.len() + HEADER_LINES + 1;
+        let line = next_line(&register);
         let Some((text, after)) = cut_line(rest) else {
             return Err(fault(line, RegisterKind::Ending).into());
         };
@@ -50,11 +51,18 @@ fn register_in(alloc: Global, bytes: &[u8]) -> Result<Register, RegisterReadErro
     Ok(register)
 }
 
+/// The number of the line on which the next licensee's name stands.
+fn next_line(register: &Register) -> u32
+    ensures { result ≡ 6 + length register.now.names }
+{
+    FIRST_NAME_LINE + register.len()
+}
+
 /// Enrols the name that stands on the next line.
 fn enrol_line(register: &mut Register, text: &[u8]) -> Result<(), RegisterReadError>
     ensures { let wanted = enrolled_at register.old text.now (refusal_of register.old text.now) in MatchResult result (λ _. wanted ≡ Ok register.new) (λ e. IsRefused e wanted) }
 {
-    let line = register.len() + HEADER_LINES + 1;
+    let line = next_line(register);
     let Ok(name) = str::from_utf8(text) else {
         return Err(fault(line, RegisterKind::BadName).into());
     };

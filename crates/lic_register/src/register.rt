@@ -12,6 +12,7 @@ ghost use Rattle.lic_register.specs.declared.errors.EnrolError.TheVariants as en
 
 use crate::errors::{EnrolError, RegisterError};
 use crate::licensee::Licensee;
+use crate::rule::Rule;
 use code_terms::Message;
 use lists::Text;
 use shelf_io::is_plain;
@@ -20,9 +21,6 @@ use std::collections::HashMap;
 use std::marker::Model;
 use steps::{Ledger, Steps};
 
-/// No register holds more licensees.
-const MOST_LICENSEES: u128 = 200_000;
-
 /// A register of licensees, which contracts see as the numbers of its code, the rule of its messages and the list of its
 /// names. The place of a name is the licensee's serial.
 ///
@@ -30,21 +28,9 @@ const MOST_LICENSEES: u128 = 200_000;
 #[derive(Drop)]
 pub struct Register {
     alloc: Global,
-    bits: u32,
-    dimension: u32,
-    multiplier: u128,
-    shift: u128,
+    rule: Rule,
     licensees: Vec<Licensee>,
     serials: HashMap<String, u32>,
-}
-
-/// The numbers of a register.
-#[derive(Clone, Copy, Debug, PartialEq, Eq)]
-pub(crate) struct Rule {
-    pub(crate) bits: u32,
-    pub(crate) dimension: u32,
-    pub(crate) multiplier: u128,
-    pub(crate) shift: u128,
 }
 
 impl Model for Register {
@@ -52,11 +38,11 @@ impl Model for Register {
 
     ghost Value = { Enrolment };
 
-    ghost use Rattle.lic_register.specs.Index.{names_of, IsKept};
+    ghost use Rattle.lic_register.specs.Index.{names_of, with_licensees, IsKept};
 
-    ghost view = { λ r. record { bits = r.bits; dimension = r.dimension; multiplier = r.multiplier; shift = r.shift; names = names_of r.licensees.items } };
+    ghost view = { λ r. with_licensees r.rule (names_of r.licensees.items) };
 
-    ghost invariant = { λ r. IsKept (record { bits = r.bits; dimension = r.dimension; multiplier = r.multiplier; shift = r.shift; names = names_of r.licensees.items }) r.serials };
+    ghost invariant = { λ r. IsKept (with_licensees r.rule (names_of r.licensees.items)) r.serials };
 }
 
 impl Register {
@@ -72,7 +58,7 @@ impl Register {
             multiplier: a,
             shift: b,
         };
-        match broken_rule(&rule) {
+        match rule.broken() {
             Some(error) => Err(error),
             None => Ok(Register::by_rule(alloc, rule)),
         }
@@ -85,10 +71,7 @@ impl Register {
     {
         Register {
             alloc,
-            bits: rule.bits,
-            dimension: rule.dimension,
-            multiplier: rule.multiplier,
-            shift: rule.shift,
+            rule,
             licensees: Vec::new(alloc),
             serials: HashMap::new(alloc),
         }
@@ -98,12 +81,7 @@ impl Register {
     pub(crate) fn rule(&self) -> Rule
         ensures { result ≡ record { bits = self.now.bits; dimension = self.now.dimension; multiplier = self.now.multiplier; shift = self.now.shift } }
     {
-        Rule {
-            bits: self.bits,
-            dimension: self.dimension,
-            multiplier: self.multiplier,
-            shift: self.shift,
-        }
+        self.rule
     }
 
     /// All licensees, in order of serial.
@@ -117,14 +95,14 @@ impl Register {
     pub fn bits(&self) -> u32
         ensures { result ≡ self.now.bits }
     {
-        self.bits
+        self.rule.bits
     }
 
     /// How many symbols a message has, 2 to 13.
     pub fn dimension(&self) -> u32
         ensures { result ≡ self.now.dimension }
     {
-        self.dimension
+        self.rule.dimension
     }
 
     /// The number of licensees.
@@ -162,12 +140,10 @@ impl Register {
         if serial >= self.licensees.len() as u32 {
             return None;
         }
-        let number = self.multiplier * u128::from(serial) + self.shift;
-        Some(Message::of(number % message_count(self.bits, self.dimension)))
+        let number = self.rule.multiplier * u128::from(serial) + self.rule.shift;
+        Some(Message::of(number % self.rule.message_count()))
     }
-}
 
-impl Register {
     /// Enrols a plain name, and answers its serial, which is the number of licensees before. A refused name leaves the
     /// register as it was.
     pub fn enrol(&mut self, name: &str) -> Result<u32, EnrolError>
@@ -182,7 +158,7 @@ impl Register {
             return Err(EnrolError::NameTaken(*serial));
         }
         let serial = self.licensees.len() as u32;
-        if serial >= capacity(self.bits, self.dimension) {
+        if serial >= self.rule.capacity() {
             return Err(EnrolError::Full(serial));
         }
         self.add(name)?;
@@ -206,63 +182,4 @@ impl Register {
         self.licensees.push(licensee).unwrap();
         Ok(())
     }
-}
-
-/// The first rule that these numbers break.
-fn broken_rule(rule: &Rule) -> Option<RegisterError>
-    ensures { result ≡ refused_by rule.now.bits rule.now.dimension rule.now.multiplier rule.now.shift }
-{
-    if !are_bits(u128::from(rule.bits)) {
-        return Some(RegisterError::BadM);
-    }
-    if !is_dimension(u128::from(rule.dimension)) {
-        return Some(RegisterError::BadK);
-    }
-    let messages = message_count(rule.bits, rule.dimension);
-    if !is_multiplier(rule.multiplier, messages) {
-        return Some(RegisterError::BadMultiplier);
-    }
-    if rule.shift >= messages {
-        return Some(RegisterError::BadShift);
-    }
-    None
-}
-
-/// Whether a symbol may have so many bits.
-pub(crate) fn are_bits(m: u128) -> bool
-    ensures { result ≡ are_bits m }
-{
-    (4..=8).contains(&m)
-}
-
-/// Whether a message may have so many symbols.
-pub(crate) fn is_dimension(k: u128) -> bool
-    ensures { result ≡ is_dimension k }
-{
-    (2..=13).contains(&k)
-}
-
-/// Whether the number is an odd message, of so many messages.
-pub(crate) fn is_multiplier(a: u128, messages: u128) -> bool
-    ensures { result ≡ ((a % 2 == 1) && nat_lt a messages) }
-{
-    a % 2 == 1 && a < messages
-}
-
-/// How many licensees a register of such a code can hold.
-fn capacity(bits: u32, dimension: u32) -> u32
-    requires bits { bits ≤ 8 }
-    requires dimension { dimension ≤ 13 }
-    ensures { result ≡ min (2 ^ (bits * dimension)) 200000 }
-{
-    message_count(bits, dimension).min(MOST_LICENSEES) as u32
-}
-
-/// How many messages of so many symbols of so many bits there are.
-pub(crate) fn message_count(bits: u32, dimension: u32) -> u128
-    requires bits { bits ≤ 8 }
-    requires dimension { dimension ≤ 13 }
-    ensures { result ≡ 2 ^ (bits * dimension) }
-{
-    1 << (bits * dimension)
 }

@@ -7,7 +7,8 @@ ghost use Rattle.lic_register.specs.Index.{names_of};
 ghost use Rattle.lic_register.specs.Parts.{register_by};
 
 use crate::licensee::Licensee;
-use crate::register::{Register, Rule};
+use crate::register::Register;
+use crate::rule::Rule;
 use lists::Memory;
 use shelf_io::number_text;
 use std::alloc::Global;

@@ -1,8 +1,7 @@
-use Rattle.std.proofs.Common.{Err, ap, sym, ◌∙◌, ◌≡◌, ◌<◌, length, arith}
+use Rattle.std.proofs.Common.{refl, sym, ◌∙◌, ◌≡◌, ◌<◌, length, arith}
 use Rattle.std.proofs.lemmas.Bool.Decides.{nat_tests}
 use Rattle.std.proofs.lemmas.Result.{err_from_is_err_and}
-use Rattle.register_terms.specs.RegisterText.{fault, register_of}
-use Rattle.register_terms.specs.declared.fault.RegisterKind.TheVariants.{Ending}
+use Rattle.register_terms.specs.RegisterText.{register_of}
 use Rattle.register_terms.proofs.Lines.{names_at-unended, names_at-end}
 use Rattle.lic_register.proofs.NameLines.{refused_line, enrolled_line}
 use Rattle.lic_register.proofs.reading.register_in.Goals as goal
@@ -11,7 +10,7 @@ pub returns-in_default : goal.returns-in_default
 returns-in_default c =
     let some : 0 < length c.loop-rest.rest.now = grind (arith, nat_tests) in
     let unended = names_at-unended c.loop-rest.register c.loop-rest.rest.now some in
-    rw (c.into.ensures, c.fault.ensures, ← c.loop-rest.invariant, c.in_default.ensures.parts, unended, c.len.ensures.number) (ap (λ n. Err (fault n Ending)) (omega arith))
+    rw (c.into.ensures, c.fault.ensures, ← c.loop-rest.invariant, c.in_default.ensures.parts, unended, c.next_line-line.ensures) refl
 
 pub returns-in_err-enrol_line : goal.returns-in_err-enrol_line
 returns-in_err-enrol_line c =
