@@ -1,1 +1,5 @@
 pub mod Ring
+pub mod Sums
+pub mod Series
+pub mod Roots
+pub mod Lists
