@@ -6,3 +6,4 @@ pub mod MemSink
 pub mod BlobList
 pub mod MemShelf
 pub mod Folder
+pub mod StdSink

@@ -1,6 +1,7 @@
 //! The standard output.
 
-ghost use Rattle.std.specs.Prelude.{◌≡◌, ◌≤◌, None, Err, if◌then◌else◌};
+ghost use Rattle.std.specs.Prelude.{◌≡◌, ◌≤◌, None, Err, OnOk, if◌then◌else◌};
+ghost use Rattle.std.specs.Io.KnownBytes.{Appends};
 ghost use Rattle.shelf_terms.specs.Counts.{Rose};
 ghost use Rattle.shelf_io.specs.Plan.{one_more};
 ghost use Rattle.shelf_io.specs.Puts.{PutGives, put_failed};
@@ -11,7 +12,9 @@ use std::io;
 use std::io::Write;
 use std::marker::Model;
 
-/// A writer of the system, as that of standard output, which does not tell what stands there.
+/// A writer of the system, as that of standard output, which need not tell what stands there.
+///
+/// The writer of standard output does not; of one that does, an answered put appends exactly the bytes.
 #[derive(Drop)]
 pub struct StdSink<W: Write + Drop> {
     writer: W,
@@ -19,17 +22,17 @@ pub struct StdSink<W: Write + Drop> {
 }
 
 impl<W: Write + Drop> Model for StdSink<W> {
-    ghost use Rattle.std.specs.Prelude.{ℕ};
+    ghost use Rattle.shelf_io.specs.StdSink.{StdSinkView};
 
-    ghost Value = { ℕ };
+    ghost Value = { StdSinkView };
 
-    ghost view = { λ s. s.faults };
+    ghost view = { λ s. record { faults = s.faults; contents = W.contents s.writer } };
 }
 
 impl<W: Write + Drop> StdSink<W> {
-    /// Puts through this writer. Contracts see the sink as the number of puts that failed.
+    /// Puts through this writer.
     pub fn new(writer: W) -> Self
-        ensures { result ≡ 0 }
+        ensures { result ≡ record { faults = 0; contents = W.contents writer } }
     {
         StdSink { writer, faults: 0 }
     }
@@ -40,14 +43,15 @@ impl<W: Write + Drop> Sink for StdSink<W> {
 
     ghost written = { λ _. None };
 
-    ghost faults = { λ s. s };
+    ghost faults = { λ s. s.faults };
 
     /// It takes no memory, and every error of the system is a fault.
     fn put(&mut self, bytes: &[u8]) -> Result<(), SinkError>
         ensures bytes { PutGives None None bytes.now result }
-        ensures faults_stay { self.old ≤ self.new }
-        ensures fault { result ≡ Err SinkError.Fault → Rose self.old self.new }
-        ensures after { self.new ≡ (if put_failed result then one_more self.old else self.old) }
+        ensures faults_stay { self.old.faults ≤ self.new.faults }
+        ensures fault { result ≡ Err SinkError.Fault → Rose self.old.faults self.new.faults }
+        ensures counted { self.new.faults ≡ (if put_failed result then one_more self.old.faults else self.old.faults) }
+        ensures appends { OnOk result (Appends self.old.contents self.new.contents bytes.now) }
         ensures never_memory { result ≡ Err SinkError.Memory → ⊥ }
     {
         match write_whole(&mut self.writer, bytes) {
@@ -60,7 +64,10 @@ impl<W: Write + Drop> Sink for StdSink<W> {
     }
 }
 
-fn write_whole<W: Write>(writer: &mut W, bytes: &[u8]) -> io::Result<()> {
+#[tactic(auto, using(crate::proofs::KnownBytes::appends_kept))]
+fn write_whole<W: Write>(writer: &mut W, bytes: &[u8]) -> io::Result<()>
+    ensures { OnOk result (Appends (W.contents writer.old) (W.contents writer.new) bytes.now) }
+{
     writer.write_all(bytes)?;
     writer.flush()
 }
