@@ -6,3 +6,4 @@ pub mod Division
 pub mod Shift
 pub mod Roots
 pub mod Fields
+pub mod Multiplicity

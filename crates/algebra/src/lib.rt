@@ -1,5 +1,9 @@
-//! Rings and fields of characteristic two on any type, and what holds in each of them.
+//! Rings and fields of characteristic two on any type, and what holds of polynomials over them.
 #![tactic(auto)]
 
-/// The laws that contracts of this crate's callers rest on stand in `specs/` and `proofs/`.
-pub fn promises() {}
+mod promises;
+
+pub use promises::{
+    laws_of_division, laws_of_products, laws_of_roots, laws_of_sums, laws_of_values,
+    no_divisors_of_zero,
+};
