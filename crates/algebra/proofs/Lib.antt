@@ -7,3 +7,4 @@ pub mod Shift
 pub mod Roots
 pub mod Fields
 pub mod Multiplicity
+pub mod CoefficientLists

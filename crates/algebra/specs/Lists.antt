@@ -11,3 +11,8 @@ module _ {F : Type 0} (R : Ring F) where
   -- the last of the coefficients is not zero
   abbrev pub IsTrimmed : List F → Type 0
   IsTrimmed list = (k : ℕ) → length list ≡ k + 1 → coefficients list k ≢ R.nil
+
+  -- the list of the coefficients of p, which ends where p ends
+  pub record IsListOf (p : ℕ → F) (list : List F) : Type 0 where
+    pub each : (k : ℕ) → coefficients list k ≡ p k
+    pub trimmed : IsTrimmed list

@@ -1,6 +1,7 @@
 //! The laws of rings, fields and polynomials that the other crates rest on, each as the contract of a function that does nothing.
 
-ghost use Rattle.std.specs.Prelude.{◌≡◌, ◌≢◌, ◌↔◌, ℕ, ◌+◌, ◌<◌, ◌≤◌};
+ghost use Rattle.std.specs.Prelude.{◌≡◌, ◌≢◌, ◌↔◌, ℕ, ◌+◌, ◌<◌, ◌≤◌, List};
+ghost use Rattle.algebra.specs.Lists.{IsListOf};
 ghost use Rattle.algebra.specs.Ring.{IsField, Ring};
 ghost use Rattle.algebra.specs.Roots.{AreDifferent, HasRoot, total};
 ghost use Rattle.algebra.specs.Series.{IsBelow, constant, linear, product, value};
@@ -44,4 +45,9 @@ pub fn laws_of_roots<F>()
     ensures few { (ring : Ring F) → IsField ring → (d n : ℕ) (m : ℕ → ℕ) (points : ℕ → F) (p : ℕ → F) → IsBelow ring (d + 1) p → p d ≢ ring.nil → AreDifferent n points → ((i : ℕ) → i < n → HasRoot ring (m i) p (points i)) → total n m ≤ d }
     // a polynomial with n coefficients and n different roots is zero
     ensures zero { (ring : Ring F) → IsField ring → (n : ℕ) (points : ℕ → F) (p : ℕ → F) → IsBelow ring n p → AreDifferent n points → ((i : ℕ) → i < n → value ring n p (points i) ≡ ring.nil) → IsBelow ring 0 p }
+{}
+
+/// A polynomial has only one list of coefficients without zeros at its end.
+pub fn laws_of_lists<F>()
+    ensures { (ring : Ring F) (p : ℕ → F) (xs ys : List F) → IsListOf ring p xs → IsListOf ring p ys → xs ≡ ys }
 {}
