@@ -1,4 +1,5 @@
-pub mod SlotLaws
 pub mod Evaluation
-pub mod PlaceLaws
 pub mod Packing
+pub mod PlaceLaws
+pub mod SlotLaws
+pub mod WordLength

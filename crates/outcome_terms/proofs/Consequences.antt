@@ -1,8 +1,11 @@
 -- What a call's status says, from all that is promised of the call.
-use Rattle.std.proofs.Common.{◌≡◌, ◌≢◌, ℕ, List, true, false, Option, Some, None, Result, Ok, Err, refl, sym, ap, ◌∙◌, inl, inr, ◌⊎◌}
+use Rattle.std.proofs.Common.{Bool, ◌≡◌, ◌≢◌, ℕ, List, true, false, Option, Some, None, Result, Ok, Err, refl, sym, ap, ◌∙◌, inl, inr, ◌⊎◌, ◌≤◌, arith}
 use Rattle.std.specs.Option.{IfSome}
+use Rattle.std.specs.Result.{result_err}
 use Rattle.shelf_terms.specs.Blobs.{Blobs}
 use Rattle.shelf_terms.specs.Counts.{Rose, Tally}
+use Rattle.shelf_terms.specs.Causes.{ReadCauses}
+use Rattle.shelf_terms.proofs.CausesLemmas.{rose_later}
 use Rattle.outcome_terms.specs.declared.status.Status.{Status}
 use Rattle.outcome_terms.specs.declared.status.Status.TheVariants as status
 use Rattle.outcome_terms.specs.declared.refusal.Refusal.{Refusal}
@@ -10,7 +13,7 @@ use Rattle.outcome_terms.specs.declared.refusal.Refusal.TheVariants as refusal
 use Rattle.outcome_terms.specs.Commands.{request_of}
 use Rattle.outcome_terms.specs.Statuses.{refusal_status}
 use Rattle.outcome_terms.specs.Outcome.{Effect, outcome}
-use Rattle.outcome_terms.specs.Endings.{Ends, Answers, Follows, CommandCauses, StatusCauses, effect_text, outcome_status, is_free, is_free_status, is_read_fault, is_missing, is_write_fault}
+use Rattle.outcome_terms.specs.Endings.{Ends, Answers, Follows, CommandCauses, StatusCauses, effect_text, outcome_status, is_free, is_free_status, is_read_fault, is_missing, is_write_fault, refused_as, blames, IsInner}
 
 -- a refusal whose status is decided is decided
 decided_refusal : (e : Refusal) → is_free_status (refusal_status e) ≡ false → is_free e ≡ false
@@ -67,7 +70,7 @@ decided_status (Err e) s rose wanted (inl is) d free = is ∙ status_of_answer (
 decided_status (Err e) s rose wanted (inr memory) d free = let no : true ≡ false = sym (ap is_free_status memory) ∙ free in cc
 
 -- where nothing failed outside, the status is the outcome's or want of memory
-calm_status : (answer : Result (List ℕ) Refusal) (s : Status) (rose : Type 0) (old new : Tally) (wanted : Result Effect Refusal) → Follows answer s rose → CommandCauses old new answer
+calm_status : (answer : Result (List ℕ) Refusal) (s : Status) (rose : Type 0) (old new : Tally) (wanted : Result Effect Refusal) → Follows answer s rose → CommandCauses old new (result_err answer)
     → Answers (λ text. text) answer (effect_text wanted) → (Rose old.faults new.faults → ⊥) → (Rose old.write_faults new.write_faults → ⊥) → (rose → ⊥) → s ≢ status.Memory → s ≡ outcome_status wanted
 calm_status (Ok text) s rose old new wanted (inl ok) causes d r w o m = ok ∙ sym (done_of_answer text wanted d)
 calm_status (Ok text) s rose old new wanted (inr (inl fault)) causes d r w o m = absurd (o fault.1)
@@ -77,7 +80,7 @@ calm_status (Err e) s rose old new wanted (inl is) causes d r w o m =
 calm_status (Err e) s rose old new wanted (inr memory) causes d r w o m = absurd (m memory)
 
 -- the counts that a status speaks of
-status_causes : (answer : Result (List ℕ) Refusal) (s : Status) (rose : Type 0) (old new : Tally) → Follows answer s rose → CommandCauses old new answer → StatusCauses old new rose s
+status_causes : (answer : Result (List ℕ) Refusal) (s : Status) (rose : Type 0) (old new : Tally) → Follows answer s rose → CommandCauses old new (result_err answer) → StatusCauses old new rose s
 status_causes (Ok text) s rose old new (inl ok) causes = record { missing = λ h. cc; read_fault = λ h. cc; write_fault = λ h. cc; out_fault = λ h. cc }
 status_causes (Ok text) s rose old new (inr (inl fault)) causes = let is = fault.0 in record { missing = λ h. cc; read_fault = λ h. cc; write_fault = λ h. cc; out_fault = λ _. fault.1 }
 status_causes (Ok text) s rose old new (inr (inr memory)) causes = record { missing = λ h. cc; read_fault = λ h. cc; write_fault = λ h. cc; out_fault = λ h. cc }
@@ -121,3 +124,47 @@ module _ {words : List (List ℕ)} {old_blobs new_blobs : Option Blobs} {old new
 
   pub ends_causes : StatusCauses old new rose s
   ends_causes = status_causes ends.answer s rose old new ends.follows ends.causes
+
+-- ---- one call after another
+
+-- a read that was answered, seen as what a command does
+pub read_causes : {old new : Tally} {name : List ℕ} {failed missed : Bool} → ReadCauses old new name failed missed → (why : Option Refusal)
+    → (refused_as is_read_fault why ≡ true → (failed ≡ true) × (blames why ≡ name)) → (refused_as is_missing why ≡ true → missed ≡ true) → refused_as is_write_fault why ≡ false → CommandCauses old new why
+read_causes {old} {new} causes why fault missing no_write =
+    let same = causes.writes_stay in
+    record {
+      faults_stay = causes.faults_stay;
+      misses_stay = causes.misses_stay;
+      writes_stay = omega arith;
+      fault = λ h. causes.fault (fault h).0;
+      blamed = λ h. causes.blames (fault h).0 ∙ sym (fault h).1;
+      missing = λ h. causes.missing (missing h);
+      write_fault = λ h. let no : true ≡ false = sym h ∙ no_write in cc;
+    }
+
+-- a call that was not refused, and then another
+pub calls_then : {first between last : Tally} {why : Option Refusal} → CommandCauses first between None → CommandCauses between last why → CommandCauses first last why
+calls_then {first} {between} {last} a b =
+    let f = a.faults_stay in let g = b.faults_stay in let m = a.misses_stay in let n = b.misses_stay in let v = a.writes_stay in let w = b.writes_stay in
+    record {
+      faults_stay = omega arith;
+      misses_stay = omega arith;
+      writes_stay = omega arith;
+      fault = λ h. rose_later first.faults between.faults last.faults f (b.fault h);
+      blamed = b.blamed;
+      missing = λ h. rose_later first.misses between.misses last.misses m (b.missing h);
+      write_fault = λ h. rose_later first.write_faults between.write_faults last.write_faults v (b.write_fault h);
+    }
+
+-- a call that was not refused, and then a refusal for another cause than the outside
+pub then_refused : {first last : Tally} → CommandCauses first last None → (e : Refusal) → IsInner e → CommandCauses first last (Some e)
+then_refused a e inner =
+  let r = inner.no_read_fault in let m = inner.no_missing in let w = inner.no_write_fault in record {
+  faults_stay = a.faults_stay;
+  misses_stay = a.misses_stay;
+  writes_stay = a.writes_stay;
+  fault = λ h. let no : true ≡ false = sym h ∙ r in cc;
+  blamed = λ h. let no : true ≡ false = sym h ∙ r in cc;
+  missing = λ h. let no : true ≡ false = sym h ∙ m in cc;
+  write_fault = λ h. let no : true ≡ false = sym h ∙ w in cc;
+}

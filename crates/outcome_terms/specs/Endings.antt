@@ -1,6 +1,7 @@
 -- How a call of the program ends: what it answered, what that has to do with the outcome and with what went wrong outside,
 -- and what then stands in the output. This project's own.
-use Rattle.std.specs.Prelude.{◌≡◌, ◌≢◌, ◌↔◌, ℕ, ◌<◌, ◌≤◌, List, [], ◌++◌, Bool, true, false, Option, Some, None, Result, Ok, Err, IfSome, is_ok, codes, ⊤, ◌⊎◌}
+use Rattle.std.specs.Prelude.{◌≡◌, ◌≢◌, ◌↔◌, ℕ, ◌<◌, ◌≤◌, List, [], ◌++◌, Bool, true, false, Option, Some, None, Result, Ok, Err, IfSome, is_some, codes, ⊤, ◌⊎◌}
+use Rattle.std.specs.Result.{result_err}
 use Rattle.code_terms.specs.Words.{readable}
 use Rattle.code_terms.specs.WordText.{word_of}
 use Rattle.register_terms.specs.Enrolment.{Enrolment}
@@ -32,11 +33,6 @@ abbrev pub Answers : {A B : Type 0} → (A → B) → Result A Refusal → Resul
 Answers view (Ok x) wanted = wanted ≡ Ok (view x)
 Answers view (Err e) wanted = is_free e ≡ false → wanted ≡ Err e
 
--- an answer as `view` shows it
-abbrev pub answer_by : {A B : Type 0} → (A → B) → Result A Refusal → Result B Refusal
-answer_by view (Ok x) = Ok (view x)
-answer_by view (Err e) = Err e
-
 -- ---- why a refusal came
 
 abbrev pub is_read_fault : Refusal → Bool
@@ -56,25 +52,32 @@ abbrev pub blamed_blob : Refusal → List ℕ
 blamed_blob (refusal.ReadFault name) = name
 blamed_blob e = []
 
--- whether an answer is a refusal that passes the test
-abbrev pub refused_as : {A : Type 0} → (Refusal → Bool) → Result A Refusal → Bool
-refused_as test (Ok x) = false
-refused_as test (Err e) = test e
+-- a refusal whose cause is not outside
+pub record IsInner (e : Refusal) : Type 0 where
+  pub no_read_fault : is_read_fault e ≡ false
+  pub no_missing : is_missing e ≡ false
+  pub no_write_fault : is_write_fault e ≡ false
 
--- the name that an answer blames
-abbrev pub blames : {A : Type 0} → Result A Refusal → List ℕ
-blames (Ok x) = []
-blames (Err e) = blamed_blob e
+-- whether there is a refusal that passes the test
+abbrev pub refused_as : (Refusal → Bool) → Option Refusal → Bool
+refused_as test None = false
+refused_as test (Some e) = test e
 
--- what the counts of the store say of an answer: each failure outside comes only where its count rose
-pub record CommandCauses {A : Type 0} (old new : Tally) (answer : Result A Refusal) : Type 0 where
+-- the name that a refusal blames, if there is one
+abbrev pub blames : Option Refusal → List ℕ
+blames None = []
+blames (Some e) = blamed_blob e
+
+-- What the counts of the store say of a command that was refused with `why`, or was not: each failure outside comes only where its
+-- count rose in the call.
+pub record CommandCauses (old new : Tally) (why : Option Refusal) : Type 0 where
   pub faults_stay : old.faults ≤ new.faults
   pub misses_stay : old.misses ≤ new.misses
   pub writes_stay : old.write_faults ≤ new.write_faults
-  pub fault : refused_as is_read_fault answer ≡ true → Rose old.faults new.faults
-  pub blamed : refused_as is_read_fault answer ≡ true → new.blamed ≡ blames answer
-  pub missing : refused_as is_missing answer ≡ true → Rose old.misses new.misses
-  pub write_fault : refused_as is_write_fault answer ≡ true → Rose old.write_faults new.write_faults
+  pub fault : refused_as is_read_fault why ≡ true → Rose old.faults new.faults
+  pub blamed : refused_as is_read_fault why ≡ true → new.blamed ≡ blames why
+  pub missing : refused_as is_missing why ≡ true → Rose old.misses new.misses
+  pub write_fault : refused_as is_write_fault why ≡ true → Rose old.write_faults new.write_faults
 
 -- ---- what stands in the output
 
@@ -156,10 +159,11 @@ abbrev pub effect_blobs : Result Effect Refusal → Option Blobs
 effect_blobs (Ok effect) = Some effect.blobs
 effect_blobs (Err e) = None
 
-pub record BlobsAfter {A : Type 0} (words : List (List ℕ)) (answer : Result A Refusal) (old new : Option Blobs) : Type 0 where
+-- what the blobs are after a command that was refused with `why`, or was not
+pub record BlobsAfter (words : List (List ℕ)) (why : Option Refusal) (old new : Option Blobs) : Type 0 where
   pub others : OnlyWrites (written_blob (request_of words)) old new
-  pub kept : refused_as keeps_blobs answer ≡ true → new ≡ old
-  pub done : is_ok answer ≡ true → IfSome old (λ blobs. new ≡ effect_blobs (outcome words blobs))
+  pub kept : refused_as keeps_blobs why ≡ true → new ≡ old
+  pub done : is_some why ≡ false → IfSome old (λ blobs. new ≡ effect_blobs (outcome words blobs))
 
 -- ---- a whole call
 
@@ -171,8 +175,8 @@ pub record Ends (words : List (List ℕ)) (old_blobs new_blobs : Option Blobs) (
   pub no_command : (answer ≡ Err refusal.BadWords) ↔ (request_of words ≡ None)
   -- where the blobs are told, the answer is the outcome's, but for want of memory and failures outside
   pub decided : IfSome old_blobs (λ blobs. Answers (λ text. text) answer (effect_text (outcome words blobs)))
-  pub blobs : BlobsAfter words answer old_blobs new_blobs
-  pub causes : CommandCauses old new answer
+  pub blobs : BlobsAfter words (result_err answer) old_blobs new_blobs
+  pub causes : CommandCauses old new (result_err answer)
   pub follows : Follows answer s sink_rose
   pub out : TellsOut answer s sink_rose before after
 

@@ -1,0 +1,123 @@
+//! The command that reports whose codewords agree with a word.
+
+ghost use Rattle.std.specs.Prelude.{◌≡◌, ◌^◌, ◌≤◌, length, IfOk, IfErr, IfSome, IsTrue};
+ghost use Rattle.std.specs.Result.{result_err};
+ghost use Rattle.text_terms.specs.Names.{is_name};
+ghost use Rattle.shelf_terms.specs.Counts.{tally};
+ghost use Rattle.outcome_terms.specs.Outcome.{accuse_outcome, allowed_bound, report_of};
+ghost use Rattle.outcome_terms.specs.Endings.{Answers, CommandCauses, IsInner};
+ghost use Rattle.desk_terms.specs.Findings.{findings};
+
+use crate::reading::{read_register, read_word};
+use crate::report::write_report;
+use crate::scan::scan;
+use desk_terms::Findings;
+use gf2m::{Gf, Ledger, Steps};
+use lic_register::Register;
+use outcome_terms::Refusal;
+use rs_code::Word;
+use shelf_io::{Memory, Shelf};
+use std::alloc::Global;
+
+/// Calls a function that is generic in the field with 2^m elements, where m is 4 to 8.
+macro_rules! over_field {
+    ($bits:expr, $function:ident ( $($argument:expr),* )) => {
+        match $bits {
+            4 => $function::<Gf<4>, _, _>($($argument),*),
+            5 => $function::<Gf<5>, _, _>($($argument),*),
+            6 => $function::<Gf<6>, _, _>($($argument),*),
+            7 => $function::<Gf<7>, _, _>($($argument),*),
+            _ => $function::<Gf<8>, _, _>($($argument),*),
+        }
+    };
+}
+
+/// The report for the register, the word and the bound.
+#[tactic(auto, unfolding(outcome_terms::specs::Outcome::accuse_outcome))]
+pub fn accuse<S: Shelf, P: Ledger, Q: Ledger>(
+    alloc: Global,
+    shelf: &mut S,
+    reg: &str,
+    word: &str,
+    c: u128,
+    prods: &mut Steps<P>,
+    looks: &mut Steps<Q>,
+) -> Result<Vec<u8>, Refusal>
+    requires reg { IsTrue (is_name reg.now) }
+    requires word { IsTrue (is_name word.now) }
+    ensures report { IfSome (S.holds shelf.old) (λ blobs. Answers (λ text. text.items) result (accuse_outcome blobs reg.now word.now c)) }
+    ensures same { S.holds shelf.new ≡ S.holds shelf.old }
+    ensures causes { CommandCauses (tally S.faults S.misses S.write_faults S.blamed shelf.old) (tally S.faults S.misses S.write_faults S.blamed shelf.new) (result_err result) }
+{
+    let register = read_register(alloc, shelf, reg)?;
+    let bound = allowed(register.dimension(), c)?;
+    let word = read_word(alloc, shelf, word, register.bits())?;
+    report(alloc, &register, &word, bound, prods, looks)
+}
+
+/// The bound, where codes of dimension `k` allow it.
+fn allowed(k: u32, c: u128) -> Result<u32, Refusal>
+    requires { k ≤ 13 }
+    ensures bound { Answers (λ bound. bound) result (allowed_bound k c) }
+    ensures most { IfOk result (λ bound. bound ≤ 8) }
+    ensures inner { IfErr result IsInner }
+{
+    if (1..=8).contains(&c) && c as u32 * (k - 1) <= 12 {
+        Ok(c as u32)
+    } else {
+        Err(Refusal::BadBound(c))
+    }
+}
+
+/// The report of a word, unless too few of its places can be read.
+#[tactic(auto, unfolding(outcome_terms::specs::Outcome::report_of))]
+fn report<P: Ledger, Q: Ledger>(
+    alloc: Global,
+    register: &Register,
+    word: &Word,
+    bound: u32,
+    prods: &mut Steps<P>,
+    looks: &mut Steps<Q>,
+) -> Result<Vec<u8>, Refusal>
+    requires least { 1 ≤ length word.now }
+    requires most { length word.now ≤ 2 ^ register.now.bits }
+    requires bound { bound ≤ 8 }
+    ensures report { Answers (λ text. text.items) result (report_of register.now word.now bound) }
+    ensures inner { IfErr result IsInner }
+{
+    let readable = word.readable();
+    let needed = bound * bound * (register.dimension() - 1);
+    if readable <= needed {
+        return Err(Refusal::TooFew { readable, needed });
+    }
+    let findings = found(alloc, register, word, bound, prods, looks)?;
+    Ok(write_report(alloc, &findings)?)
+}
+
+/// The findings, over the field of the register.
+fn found<P: Ledger, Q: Ledger>(
+    alloc: Global,
+    register: &Register,
+    word: &Word,
+    bound: u32,
+    prods: &mut Steps<P>,
+    looks: &mut Steps<Q>,
+) -> Result<Findings, Memory>
+    requires least { 1 ≤ length word.now }
+    requires most { length word.now ≤ 2 ^ register.now.bits }
+    requires bound { bound ≤ 8 }
+    ensures { IfOk result (λ found. found ≡ findings register.now word.now bound) }
+{
+    let bits = valid_bits(register);
+    over_field!(bits, scan(alloc, register, word, bound, prods, looks))
+}
+
+/// The bits of a symbol: a register's are 4 to 8.
+fn valid_bits(register: &Register) -> u32
+    ensures bits { result ≡ register.now.bits }
+    ensures least { 4 ≤ result }
+    ensures most { result ≤ 8 }
+{
+    let _licensees = register.len();
+    register.bits()
+}
