@@ -4,7 +4,9 @@ use Rattle.std.specs.List.{range_with_len}
 use Rattle.std.proofs.lemmas.List.Elements.{filter-append}
 use Rattle.std.proofs.lemmas.List.{map-append}
 use Rattle.desk_terms.specs.declared.findings.Accused.{Accused}
-use Rattle.desk_terms.specs.Findings.{findings, meets_threshold, accusation, serials}
+use Rattle.desk_terms.specs.declared.findings.Findings.{Findings}
+use Rattle.code_terms.specs.Words.{readable}
+use Rattle.desk_terms.specs.Findings.{findings, meets_threshold, accusation}
 use Rattle.desk_terms.specs.Scan.{accusations_at}
 use Rattle.register_terms.specs.Enrolment.{Enrolment}
 
@@ -36,3 +38,12 @@ accused_below-more e word c n =
 pub accused_below-all : (e : Enrolment) (word : List (Option ℕ)) (c n : ℕ) → length e.names ≡ n → accused_below e word c n ≡ (findings e word c).accused
 unfolding accused_below findings
 accused_below-all e word c n same = ap (λ m. map (accusation e word) (filter (meets_threshold e word c) (range_with_len 0 m))) (sym same)
+
+-- the findings, from their two parts
+pub findings_made : (e : Enrolment) (word : List (Option ℕ)) (c r : ℕ) (list : List Accused) → r ≡ readable word → list ≡ (findings e word c).accused
+    → record {readable = r; bound = c; accused = list} ≡ findings e word c
+unfolding findings
+findings_made e word c r list same_count same_list =
+    let by_count : ℕ → Findings = λ x. record {readable = x; bound = c; accused = list} in
+    let by_list : List Accused → Findings = λ y. record {readable = readable word; bound = c; accused = y} in
+    ap by_count same_count ∙ ap by_list same_list

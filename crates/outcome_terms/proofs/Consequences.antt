@@ -1,5 +1,5 @@
 -- What a call's status says, from all that is promised of the call.
-use Rattle.std.proofs.Common.{Bool, ◌≡◌, ◌≢◌, ℕ, List, true, false, Option, Some, None, Result, Ok, Err, refl, sym, ap, ◌∙◌, inl, inr, ◌⊎◌, ◌≤◌, arith}
+use Rattle.std.proofs.Common.{Bool, ◌≡◌, ◌≢◌, ℕ, List, true, false, Option, Some, None, Result, Ok, Err, refl, sym, ap, ◌∙◌, subst, inl, inr, ◌⊎◌, ◌≤◌, arith}
 use Rattle.std.specs.Option.{IfSome}
 use Rattle.std.specs.Result.{result_err}
 use Rattle.shelf_terms.specs.Blobs.{Blobs}
@@ -12,7 +12,7 @@ use Rattle.outcome_terms.specs.declared.refusal.Refusal.{Refusal}
 use Rattle.outcome_terms.specs.declared.refusal.Refusal.TheVariants as refusal
 use Rattle.outcome_terms.specs.Commands.{request_of}
 use Rattle.outcome_terms.specs.Statuses.{refusal_status}
-use Rattle.outcome_terms.specs.Outcome.{Effect, outcome}
+use Rattle.outcome_terms.specs.Outcome.{Effect, outcome_of, outcome}
 use Rattle.outcome_terms.specs.Endings.{Ends, Answers, Follows, CommandCauses, StatusCauses, effect_text, outcome_status, is_free, is_free_status, is_read_fault, is_missing, is_write_fault, refused_as, blames, IsInner}
 
 -- a refusal whose status is decided is decided
@@ -111,19 +111,19 @@ bad_words_answer (Err e) s rose (inr memory) is = cc
 
 module _ {words : List (List ℕ)} {old_blobs new_blobs : Option Blobs} {old new : Tally} {s : Status} {rose : Type 0} {before after : Option (List ℕ)} (ends : Ends words old_blobs new_blobs old new s rose before after) where
   pub ends_bad_words : s ≡ status.BadWords → request_of words ≡ None
-  ends_bad_words h = ends.no_command.0 (bad_words_answer ends.answer s rose ends.follows h)
+  ends_bad_words h = ends.performed.no_command.0 (bad_words_answer ends.answer s rose ends.follows h)
 
   pub ends_no_command : request_of words ≡ None → (s ≡ status.BadWords) ⊎ (s ≡ status.Memory)
-  ends_no_command h = no_command_status ends.answer s rose ends.follows (ends.no_command.1 h)
+  ends_no_command h = no_command_status ends.answer s rose ends.follows (ends.performed.no_command.1 h)
 
   pub ends_decided : IfSome old_blobs (λ blobs. is_free_status s ≡ false → s ≡ outcome_status (outcome words blobs))
-  ends_decided = over_told old_blobs ends.decided (λ blobs d. decided_status ends.answer s rose (outcome words blobs) ends.follows d)
+  ends_decided = over_told old_blobs ends.performed.decided (λ blobs d. decided_status ends.answer s rose (outcome words blobs) ends.follows d)
 
   pub ends_complete : (Rose old.faults new.faults → ⊥) → (Rose old.write_faults new.write_faults → ⊥) → (rose → ⊥) → IfSome old_blobs (λ blobs. s ≢ status.Memory → s ≡ outcome_status (outcome words blobs))
-  ends_complete r w o = over_told old_blobs ends.decided (λ blobs d. calm_status ends.answer s rose old new (outcome words blobs) ends.follows ends.causes d r w o)
+  ends_complete r w o = over_told old_blobs ends.performed.decided (λ blobs d. calm_status ends.answer s rose old new (outcome words blobs) ends.follows ends.performed.causes d r w o)
 
   pub ends_causes : StatusCauses old new rose s
-  ends_causes = status_causes ends.answer s rose old new ends.follows ends.causes
+  ends_causes = status_causes ends.answer s rose old new ends.follows ends.performed.causes
 
 -- ---- one call after another
 

@@ -126,7 +126,6 @@ text_put blobs (Err e) = refl
 -- where the words are the command, its outcome is the outcome
 accuse_answer : (words : List (List ℕ)) (blobs : Blobs) (register word : List ℕ) (c : ℕ) → request_of words ≡ Some (Accuse register word c)
     → effect_text (outcome words blobs) ≡ accuse_outcome blobs register word c
-unfolding request_outcome
 accuse_answer words blobs register word c named = ap (λ request. effect_text (outcome_of request blobs)) named ∙ text_put blobs (accuse_outcome blobs register word c)
 
 never_done : (e : Refusal) → refusal_status e ≡ status.Ok → ⊥
@@ -150,4 +149,4 @@ pub ends_report : {words : List (List ℕ)} {old_blobs new_blobs : Option Blobs}
     (register word : List ℕ) (c : ℕ) → request_of words ≡ Some (Accuse register word c) → s ≡ status.Ok → TellsReport old_blobs register word c before after
 ends_report {words} {old_blobs} {new_blobs} {old} {new} {s} {rose} {before} {after} ends register word c named ok =
     tells register word c old_blobs before after ends.answer s rose ends.follows
-    (over_told old_blobs ends.decided (λ blobs d. subst (Answers (λ text. text) ends.answer) (accuse_answer words blobs register word c named) d)) ends.out ok
+    (over_told old_blobs ends.performed.decided (λ blobs d. subst (Answers (λ text. text) ends.answer) (accuse_answer words blobs register word c named) d)) ends.out ok

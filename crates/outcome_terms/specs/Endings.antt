@@ -2,6 +2,7 @@
 -- and what then stands in the output. This project's own.
 use Rattle.std.specs.Prelude.{◌≡◌, ◌≢◌, ◌↔◌, ℕ, ◌<◌, ◌≤◌, List, [], ◌++◌, Bool, true, false, Option, Some, None, Result, Ok, Err, IfSome, is_some, codes, ⊤, ◌⊎◌}
 use Rattle.std.specs.Result.{result_err}
+use Rattle.std.specs.FinMap.{insert}
 use Rattle.code_terms.specs.Words.{readable}
 use Rattle.code_terms.specs.WordText.{word_of}
 use Rattle.register_terms.specs.Enrolment.{Enrolment}
@@ -17,7 +18,7 @@ use Rattle.outcome_terms.specs.declared.refusal.Refusal.{Refusal}
 use Rattle.outcome_terms.specs.declared.refusal.Refusal.TheVariants as refusal
 use Rattle.outcome_terms.specs.Commands.{Request, Make, Enrol, Accuse, request_of}
 use Rattle.outcome_terms.specs.Statuses.{refusal_status, error_text, line_of}
-use Rattle.outcome_terms.specs.Outcome.{Effect, outcome}
+use Rattle.outcome_terms.specs.Outcome.{Effect, outcome_of}
 
 -- ---- what was answered, against the outcome
 
@@ -47,13 +48,18 @@ abbrev pub is_write_fault : Refusal → Bool
 is_write_fault (refusal.WriteFault name) = true
 is_write_fault e = false
 
+abbrev pub is_bad_words : Refusal → Bool
+is_bad_words refusal.BadWords = true
+is_bad_words e = false
+
 -- the name of the blob that a failed read is blamed on
 abbrev pub blamed_blob : Refusal → List ℕ
 blamed_blob (refusal.ReadFault name) = name
 blamed_blob e = []
 
--- a refusal whose cause is not outside
+-- a refusal whose cause is neither outside nor in the words
 pub record IsInner (e : Refusal) : Type 0 where
+  pub no_bad_words : is_bad_words e ≡ false
   pub no_read_fault : is_read_fault e ≡ false
   pub no_missing : is_missing e ≡ false
   pub no_write_fault : is_write_fault e ≡ false
@@ -143,6 +149,13 @@ OnlyWrites (Some out) None None = ⊤
 OnlyWrites (Some out) (Some old) None = ⊥
 OnlyWrites (Some out) None (Some new) = ⊥
 
+-- the name holds the text, and no other blob has changed
+abbrev pub OnlyInserts : List ℕ → List ℕ → Option Blobs → Option Blobs → Type 0
+OnlyInserts out text (Some old) (Some new) = new ≡ insert old out text
+OnlyInserts out text None None = ⊤
+OnlyInserts out text (Some old) None = ⊥
+OnlyInserts out text None (Some new) = ⊥
+
 -- a refusal after which no blob has changed: each but want of memory and a failed write
 abbrev pub keeps_blobs : Refusal → Bool
 keeps_blobs refusal.Memory = false
@@ -160,23 +173,27 @@ effect_blobs (Ok effect) = Some effect.blobs
 effect_blobs (Err e) = None
 
 -- what the blobs are after a command that was refused with `why`, or was not
-pub record BlobsAfter (words : List (List ℕ)) (why : Option Refusal) (old new : Option Blobs) : Type 0 where
-  pub others : OnlyWrites (written_blob (request_of words)) old new
+pub record BlobsAfter (request : Option Request) (why : Option Refusal) (old new : Option Blobs) : Type 0 where
+  -- no other blob than the one to be written has changed
+  pub others : OnlyWrites (written_blob request) old new
   pub kept : refused_as keeps_blobs why ≡ true → new ≡ old
-  pub done : is_some why ≡ false → IfSome old (λ blobs. new ≡ effect_blobs (outcome words blobs))
+  pub done : is_some why ≡ false → IfSome old (λ blobs. new ≡ effect_blobs (outcome_of request blobs))
 
 -- ---- a whole call
 
+-- what is promised of a command's answer: the text to be put out, or why it was refused
+pub record Performs (request : Option Request) (old_blobs new_blobs : Option Blobs) (old new : Tally) (answer : Result (List ℕ) Refusal) : Type 0 where
+  -- the words are refused as no command exactly where they are none
+  pub no_command : (answer ≡ Err refusal.BadWords) ↔ (request ≡ None)
+  -- where the blobs are told, the answer is the outcome's, but for want of memory and failures outside
+  pub decided : IfSome old_blobs (λ blobs. Answers (λ text. text) answer (effect_text (outcome_of request blobs)))
+  pub blobs : BlobsAfter request (result_err answer) old_blobs new_blobs
+  pub causes : CommandCauses old new (result_err answer)
+
 -- Everything that is promised of a call, over the answer that the command had. `sink_rose` says that a fault of the output was counted.
 pub record Ends (words : List (List ℕ)) (old_blobs new_blobs : Option Blobs) (old new : Tally) (s : Status) (sink_rose : Type 0) (before after : Option (List ℕ)) : Type 0 where
-  -- what the command answered: the text to be put out, or why it was refused
   pub answer : Result (List ℕ) Refusal
-  -- the words are refused as no command exactly where they are none
-  pub no_command : (answer ≡ Err refusal.BadWords) ↔ (request_of words ≡ None)
-  -- where the blobs are told, the answer is the outcome's, but for want of memory and failures outside
-  pub decided : IfSome old_blobs (λ blobs. Answers (λ text. text) answer (effect_text (outcome words blobs)))
-  pub blobs : BlobsAfter words (result_err answer) old_blobs new_blobs
-  pub causes : CommandCauses old new (result_err answer)
+  pub performed : Performs (request_of words) old_blobs new_blobs old new answer
   pub follows : Follows answer s sink_rose
   pub out : TellsOut answer s sink_rose before after
 

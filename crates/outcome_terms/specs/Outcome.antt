@@ -114,7 +114,7 @@ abbrev pub writes_to : Blobs → List ℕ → Result (List ℕ) Refusal → Resu
 writes_to blobs out (Ok text) = Ok (record { blobs = insert blobs out text; bytes = [] })
 writes_to blobs out (Err e) = Err e
 
-unfoldable pub request_outcome : Request → Blobs → Result Effect Refusal
+abbrev pub request_outcome : Request → Blobs → Result Effect Refusal
 request_outcome (Make m k a b out) blobs = writes_to blobs out (make_outcome m k a b)
 request_outcome (Enrol register name out) blobs = writes_to blobs out (enrol_outcome blobs register name out)
 request_outcome (Accuse register word c) blobs = puts_out blobs (accuse_outcome blobs register word c)

@@ -1,16 +1,17 @@
 //! The command that reports whose codewords agree with a word.
 
-ghost use Rattle.std.specs.Prelude.{◌≡◌, ◌^◌, ◌≤◌, length, IfOk, IfErr, IfSome, IsTrue};
+ghost use Rattle.std.specs.Prelude.{◌≡◌, ◌^◌, ◌≤◌, length, false, IfOk, IfErr, IfSome, IsTrue};
 ghost use Rattle.std.specs.Result.{result_err};
 ghost use Rattle.text_terms.specs.Names.{is_name};
 ghost use Rattle.shelf_terms.specs.Counts.{tally};
 ghost use Rattle.outcome_terms.specs.Outcome.{accuse_outcome, allowed_bound, report_of};
-ghost use Rattle.outcome_terms.specs.Endings.{Answers, CommandCauses, IsInner};
+ghost use Rattle.outcome_terms.specs.Endings.{Answers, CommandCauses, IsInner, refused_as, is_bad_words};
 ghost use Rattle.desk_terms.specs.Findings.{findings};
 
 use crate::reading::{read_register, read_word};
 use crate::report::write_report;
 use crate::scan::scan;
+use crate::valid::{valid_bits, valid_dimension};
 use desk_terms::Findings;
 use gf2m::{Gf, Ledger, Steps};
 use lic_register::Register;
@@ -46,18 +47,20 @@ pub fn accuse<S: Shelf, P: Ledger, Q: Ledger>(
     requires reg { IsTrue (is_name reg.now) }
     requires word { IsTrue (is_name word.now) }
     ensures report { IfSome (S.holds shelf.old) (λ blobs. Answers (λ text. text.items) result (accuse_outcome blobs reg.now word.now c)) }
+    ensures command { refused_as is_bad_words (result_err result) ≡ false }
     ensures same { S.holds shelf.new ≡ S.holds shelf.old }
     ensures causes { CommandCauses (tally S.faults S.misses S.write_faults S.blamed shelf.old) (tally S.faults S.misses S.write_faults S.blamed shelf.new) (result_err result) }
 {
     let register = read_register(alloc, shelf, reg)?;
-    let bound = allowed(register.dimension(), c)?;
-    let word = read_word(alloc, shelf, word, register.bits())?;
+    let bound = allowed(valid_dimension(&register), c)?;
+    let word = read_word(alloc, shelf, word, valid_bits(&register))?;
     report(alloc, &register, &word, bound, prods, looks)
 }
 
 /// The bound, where codes of dimension `k` allow it.
 fn allowed(k: u32, c: u128) -> Result<u32, Refusal>
-    requires { k ≤ 13 }
+    requires least { 1 ≤ k }
+    requires most { k ≤ 13 }
     ensures bound { Answers (λ bound. bound) result (allowed_bound k c) }
     ensures most { IfOk result (λ bound. bound ≤ 8) }
     ensures inner { IfErr result IsInner }
@@ -86,7 +89,7 @@ fn report<P: Ledger, Q: Ledger>(
     ensures inner { IfErr result IsInner }
 {
     let readable = word.readable();
-    let needed = bound * bound * (register.dimension() - 1);
+    let needed = bound * bound * (valid_dimension(register) - 1);
     if readable <= needed {
         return Err(Refusal::TooFew { readable, needed });
     }
@@ -110,14 +113,4 @@ fn found<P: Ledger, Q: Ledger>(
 {
     let bits = valid_bits(register);
     over_field!(bits, scan(alloc, register, word, bound, prods, looks))
-}
-
-/// The bits of a symbol: a register's are 4 to 8.
-fn valid_bits(register: &Register) -> u32
-    ensures bits { result ≡ register.now.bits }
-    ensures least { 4 ≤ result }
-    ensures most { result ≤ 8 }
-{
-    let _licensees = register.len();
-    register.bits()
 }

@@ -7,5 +7,7 @@ mod reading;
 mod refusal_line;
 mod report;
 mod scan;
+mod valid;
+mod writing;
 
 fn main() {}

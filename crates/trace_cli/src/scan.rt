@@ -1,13 +1,16 @@
 //! The findings of a word, by going through the licensees one by one.
 
-ghost use Rattle.std.specs.Prelude.{◌≡◌, ◌+◌, ◌*◌, ◌^◌, ◌<◌, ◌≤◌, ◌++◌, [], ◌∷◌, length, OnOk, IfOk, if◌then◌else◌};
-ghost use Rattle.desk_terms.specs.Findings.{findings, meets_threshold, accusation};
+ghost use Rattle.std.specs.Prelude.{◌≡◌, ◌*◌, ◌^◌, ◌<◌, ◌≤◌, ◌++◌, [], length, nat_le, slice_index_or, OnOk, IfOk};
+ghost use Rattle.code_terms.specs.Words.{readable, agreement_of};
+ghost use Rattle.register_terms.specs.Enrolment.{message_of};
+ghost use Rattle.desk_terms.specs.Findings.{findings};
 ghost use Rattle.desk_terms.specs.Scan.{accusations_at};
 
+use crate::valid::valid_dimension;
 use desk_terms::{Accused, AccusedList, Findings};
 use gf2m::{Field, Ledger, Steps};
 use lic_register::Register;
-use rs_code::{Code, Word};
+use rs_code::{Code, Message, Word};
 use shelf_io::{Memory, Text};
 use std::alloc::Global;
 
@@ -26,7 +29,7 @@ pub fn scan<F: Field, P: Ledger, Q: Ledger>(
     requires bound { bound ≤ 8 }
     ensures { IfOk result (λ found. found ≡ findings register.now word.now bound) }
 {
-    let code = Code::<F>::new(word.len(), register.dimension()).unwrap();
+    let code = Code::<F>::new(word.len(), valid_dimension(register)).unwrap();
     let mut accused = Vec::new(alloc);
     'serials: for serial in 0..register.len() {
         consider(alloc, register, &code, word, bound, serial, &mut accused, prods, looks)?;
@@ -57,13 +60,40 @@ fn consider<F: Field, P: Ledger, Q: Ledger>(
     requires serial { serial < length register.now.names }
     ensures { OnOk result (accused.new.items ≡ accused.old.items ++ accusations_at register.now word.now bound serial) }
 {
-    let message = register.message_of(serial, looks).unwrap();
-    if code.agreement(message, word, prods) * bound < word.readable() {
-        return Ok(());
+    let message = message_of(register, serial, looks);
+    if meets(code, message, word, bound, prods) {
+        let name = name_of(alloc, register, serial, looks)?;
+        let places = code.places(alloc, message, word, prods)?;
+        accused.push(Accused { serial, name, places })?;
     }
-    let licensee = register.entry(serial, looks).unwrap();
-    let name = Text::of(alloc, licensee.name.as_str())?;
-    let places = code.places(alloc, message, word, prods)?;
-    accused.push(Accused { serial, name, places })?;
     Ok(())
+}
+
+/// Whether the message agrees with at least r/c of the r readable places, for the bound c.
+fn meets<F: Field, P: Ledger>(code: &Code<F>, message: Message, word: &Word, bound: u32, prods: &mut Steps<P>) -> bool
+    requires length { length word.now ≡ code.now.places }
+    requires message { message < 2 ^ (F.BITS * code.now.dimension) }
+    requires bound { bound ≤ 8 }
+    ensures { result ≡ nat_le (readable word.now) (agreement_of F.BITS code.now.dimension message word.now * bound) }
+{
+    let agreement = code.agreement(message, word, prods);
+    agreement as u64 * bound as u64 >= word.readable() as u64
+}
+
+/// The message of an enrolled licensee.
+fn message_of<Q: Ledger>(register: &Register, serial: u32, looks: &mut Steps<Q>) -> Message
+    requires { serial < length register.now.names }
+    ensures value { result ≡ message_of register.now serial }
+    ensures below { result < 2 ^ (register.now.bits * register.now.dimension) }
+{
+    register.message_of(serial, looks).unwrap()
+}
+
+/// A copy of the name of an enrolled licensee.
+fn name_of<Q: Ledger>(alloc: Global, register: &Register, serial: u32, looks: &mut Steps<Q>) -> Result<Text, Memory>
+    requires { serial < length register.now.names }
+    ensures { IfOk result (λ name. name ≡ slice_index_or register.now.names serial []) }
+{
+    let licensee = register.entry(serial, looks).unwrap();
+    Text::of(alloc, licensee.name.as_str())
 }
