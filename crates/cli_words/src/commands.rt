@@ -1,12 +1,13 @@
 //! Which lists of words are commands.
 
-ghost use Rattle.std.specs.Prelude.{◌≡◌, map};
+ghost use Rattle.std.specs.Prelude.{◌≡◌, map, IfSome, IsTrue};
 ghost use Rattle.std.specs.Option.{option_map};
 ghost use Rattle.std.specs.String.{string_bytes};
 ghost use Rattle.std.specs.Str.{bytes_eq};
+ghost use Rattle.text_terms.specs.Names.{is_name};
 ghost use Rattle.text_terms.specs.Numbers.{number_of};
 ghost use Rattle.outcome_terms.specs.Commands.{named as blob_name, request_of, make_from, make_of, enrol_of, accuse_of};
-ghost use Rattle.cli_words.specs.Requests.{request};
+ghost use Rattle.cli_words.specs.Requests.{request, HasNames};
 
 use shelf_io::{is_name, read_number};
 
@@ -51,7 +52,8 @@ pub enum Command<'a> {
 /// The command that the words are. It takes no memory, and is `None` exactly where the words are no command.
 #[tactic(auto, unfolding(outcome_terms::specs::Commands::request_of))]
 pub fn read_words<'a>(words: &'a [String]) -> Option<Command<'a>>
-    ensures { option_map request result ≡ request_of (map string_bytes words.now) }
+    ensures asked { option_map request result ≡ request_of (map string_bytes words.now) }
+    ensures names { IfSome result HasNames }
 {
     let (command, arguments) = words.split_first()?;
     if is_word(command, "register") {
@@ -73,7 +75,8 @@ fn is_word(word: &String, name: &str) -> bool
 
 /// The word, where it has the form of a blob's name.
 fn named(word: &String) -> Option<&str>
-    ensures { option_map (λ text. text.now) result ≡ blob_name (string_bytes word.now) }
+    ensures value { option_map (λ text. text.now) result ≡ blob_name (string_bytes word.now) }
+    ensures name { IfSome result (λ text. IsTrue (is_name text.now)) }
 {
     let text = word.as_str();
     if is_name(text) { Some(text) } else { None }
@@ -86,7 +89,8 @@ fn number(word: &String) -> Option<u128>
 }
 
 fn register_words<'a>(arguments: &'a [String]) -> Option<Command<'a>>
-    ensures { option_map request result ≡ make_of (map string_bytes arguments.now) }
+    ensures asked { option_map request result ≡ make_of (map string_bytes arguments.now) }
+    ensures names { IfSome result HasNames }
 {
     let [m, k, a, b, out] = arguments else {
         return None;
@@ -102,7 +106,8 @@ fn register_from<'a>(
     b: &String,
     out: &'a String,
 ) -> Option<Command<'a>>
-    ensures { option_map request result ≡ make_from (string_bytes m.now) (string_bytes k.now) (string_bytes a.now) (string_bytes b.now) (string_bytes out.now) }
+    ensures asked { option_map request result ≡ make_from (string_bytes m.now) (string_bytes k.now) (string_bytes a.now) (string_bytes b.now) (string_bytes out.now) }
+    ensures names { IfSome result HasNames }
 {
     let m = number(m)?;
     let k = number(k)?;
@@ -114,7 +119,8 @@ fn register_from<'a>(
 
 #[tactic(auto, unfolding(outcome_terms::specs::Commands::enrol_of))]
 fn enrol_words<'a>(arguments: &'a [String]) -> Option<Command<'a>>
-    ensures { option_map request result ≡ enrol_of (map string_bytes arguments.now) }
+    ensures asked { option_map request result ≡ enrol_of (map string_bytes arguments.now) }
+    ensures names { IfSome result HasNames }
 {
     let [reg, name, out] = arguments else {
         return None;
@@ -127,7 +133,8 @@ fn enrol_words<'a>(arguments: &'a [String]) -> Option<Command<'a>>
 
 #[tactic(auto, unfolding(outcome_terms::specs::Commands::accuse_of))]
 fn accuse_words<'a>(arguments: &'a [String]) -> Option<Command<'a>>
-    ensures { option_map request result ≡ accuse_of (map string_bytes arguments.now) }
+    ensures asked { option_map request result ≡ accuse_of (map string_bytes arguments.now) }
+    ensures names { IfSome result HasNames }
 {
     let [reg, word, c] = arguments else {
         return None;

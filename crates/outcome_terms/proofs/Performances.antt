@@ -118,3 +118,8 @@ no_performs told old = record {
     go : (t : Option Blobs) → IfSome t (λ blobs. Answers (λ text. text) (Err refusal.BadWords) (effect_text (outcome_of None blobs)))
     go None = tt
     go (Some blobs) = λ free. refl
+
+-- what holds whatever the blobs are
+pub always_told : {P : Type 0} (told : Option Blobs) → P → IfSome told (λ blobs. P)
+always_told None h = tt
+always_told (Some blobs) h = h

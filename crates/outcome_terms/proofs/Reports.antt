@@ -1,5 +1,6 @@
 -- What a report says, from the outcome of `accuse`.
-use Rattle.std.proofs.Common.{◌≡◌, ℕ, ◌<◌, List, Bool, true, false, cond, Option, Some, None, Result, Ok, Err, refl, sym, ap, subst, ◌∙◌, inl, inr, length, arith, nat_le}
+use Rattle.std.proofs.lemmas.List.{append-nil}
+use Rattle.std.proofs.Common.{[], ◌≡◌, ℕ, ◌<◌, List, Bool, true, false, cond, Option, Some, None, Result, Ok, Err, refl, sym, ap, subst, ◌∙◌, inl, inr, length, arith, nat_le}
 use Rattle.std.proofs.lemmas.Bool.Decides.{nat_tests}
 use Rattle.std.specs.Option.{IfSome}
 use Rattle.shelf_terms.specs.Blobs.{Blobs, blob_at}
@@ -19,9 +20,9 @@ use Rattle.outcome_terms.specs.declared.refusal.Refusal.TheVariants.{BadBound, T
 use Rattle.outcome_terms.specs.declared.refusal.Refusal.TheVariants as refusal
 use Rattle.outcome_terms.specs.Statuses.{refusal_status}
 use Rattle.outcome_terms.proofs.Consequences.{over_told}
-use Rattle.outcome_terms.specs.Commands.{Accuse, request_of}
+use Rattle.outcome_terms.specs.Commands.{Request, Accuse, request_of}
 use Rattle.outcome_terms.specs.Outcome.{◌>>=◌, blob_limit, within_limit, read_blob, register_or_refusal, word_or_refusal, read_register, read_word, report_of, allowed_bound, accuse_outcome, puts_out, request_outcome, outcome_of, outcome}
-use Rattle.outcome_terms.specs.Endings.{Ends, Answers, Follows, TellsOut, TellsReport, IsReport, effect_text}
+use Rattle.outcome_terms.specs.Endings.{Ends, Performs, Answers, Follows, TellsOut, TellsReport, IsReport, effect_text}
 
 -- a chain that is not refused: its first step was not, and what follows
 record Steps {A B : Type 0} (r : Result A Refusal) (f : A → Result B Refusal) (y : B) : Type 0 where
@@ -150,3 +151,18 @@ pub ends_report : {words : List (List ℕ)} {old_blobs new_blobs : Option Blobs}
 ends_report {words} {old_blobs} {new_blobs} {old} {new} {s} {rose} {before} {after} ends register word c named ok =
     tells register word c old_blobs before after ends.answer s rose ends.follows
     (over_told old_blobs ends.performed.decided (λ blobs d. subst (Answers (λ text. text) ends.answer) (accuse_answer words blobs register word c named) d)) ends.out ok
+
+-- the same from the parts of the promise
+pub reported : {request : Option Request} {old_blobs new_blobs : Option Blobs} {old new : Tally} (answer : Result (List ℕ) Refusal) (s : Status) (rose : Type 0) (before after : Option (List ℕ))
+    → Performs request old_blobs new_blobs old new answer → Follows answer s rose → TellsOut answer s rose before after
+    → (register word : List ℕ) (c : ℕ) → request ≡ Some (Accuse register word c) → s ≡ status.Ok → TellsReport old_blobs register word c before after
+reported {request} {old_blobs} answer s rose before after performed follows out register word c named ok =
+    tells register word c old_blobs before after answer s rose follows
+    (over_told old_blobs performed.decided
+    (λ blobs d. subst (Answers (λ text. text) answer) (ap (λ r. effect_text (outcome_of r blobs)) named ∙ text_put blobs (accuse_outcome blobs register word c)) d))
+    out ok
+
+-- where nothing is to be put out and nothing is
+pub nothing_put : (rose : Type 0) (told : Option (List ℕ)) → TellsOut (Ok []) status.Ok rose told told
+nothing_put rose None = tt
+nothing_put rose (Some before) = record { whole = λ same. sym (append-nil before); fault = λ h. cc; memory = λ h. cc }

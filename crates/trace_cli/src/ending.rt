@@ -3,6 +3,7 @@
 ghost use Rattle.std.specs.Prelude.{◌≡◌, ◌≤◌};
 ghost use Rattle.shelf_terms.specs.Counts.{Rose};
 ghost use Rattle.outcome_terms.specs.Endings.{Follows, TellsOut, TellsFront, memory_line};
+ghost use Rattle.trace_cli.specs.Answers.{text_left};
 
 use crate::refusal_line::{refusal_line, status_of};
 use cli_words::Status;
@@ -13,8 +14,28 @@ use std::alloc::Global;
 /// The error line for want of memory, which takes none.
 const MEMORY_LINE: &[u8] = b"error 1 memory\n";
 
+/// What a command that was not refused leaves to be put out.
+#[derive(Debug, Drop)]
+pub enum Done {
+    /// Nothing: it wrote a blob.
+    Written,
+    /// A report.
+    Report(Vec<u8>),
+}
+
+/// Puts out what a command left to be put out.
+pub fn put_done<O: Sink>(done: Done, out: &mut O) -> Status
+    ensures follows { Follows (Ok (text_left done)) result (Rose (O.faults out.old) (O.faults out.new)) }
+    ensures out { TellsOut (Ok (text_left done)) result (Rose (O.faults out.old) (O.faults out.new)) (O.written out.old) (O.written out.new) }
+{
+    match done {
+        Done::Written => Status::Ok,
+        Done::Report(text) => put_answer(text.as_slice(), out),
+    }
+}
+
 /// Puts out the answer of a command.
-pub fn put_answer<O: Sink>(text: &[u8], out: &mut O) -> Status
+fn put_answer<O: Sink>(text: &[u8], out: &mut O) -> Status
     ensures follows { Follows (Ok text.now) result (Rose (O.faults out.old) (O.faults out.new)) }
     ensures out { TellsOut (Ok text.now) result (Rose (O.faults out.old) (O.faults out.new)) (O.written out.old) (O.written out.new) }
 {

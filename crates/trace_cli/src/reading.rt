@@ -38,7 +38,11 @@ fn bytes_of<S: Shelf>(alloc: Global, shelf: &mut S, name: &str) -> Result<Vec<u8
 
 /// The register that a blob holds.
 #[tactic(auto, unfolding(outcome_terms::specs::Outcome::read_register))]
-pub fn read_register<S: Shelf>(alloc: Global, shelf: &mut S, name: &str) -> Result<Register, Refusal>
+pub fn read_register<S: Shelf>(
+    alloc: Global,
+    shelf: &mut S,
+    name: &str,
+) -> Result<Register, Refusal>
     requires { IsTrue (is_name name.now) }
     ensures register { IfSome (S.holds shelf.old) (λ blobs. Answers (λ register. register) result (read_register blobs name.now)) }
     ensures command { refused_as is_bad_words (result_err result) ≡ false }
@@ -62,7 +66,12 @@ fn register_of_bytes(alloc: Global, bytes: &[u8]) -> Result<Register, Refusal>
 
 /// The word that a blob holds, over symbols of `m` bits.
 #[tactic(auto, unfolding(outcome_terms::specs::Outcome::read_word))]
-pub fn read_word<S: Shelf>(alloc: Global, shelf: &mut S, name: &str, m: u32) -> Result<Word, Refusal>
+pub fn read_word<S: Shelf>(
+    alloc: Global,
+    shelf: &mut S,
+    name: &str,
+    m: u32,
+) -> Result<Word, Refusal>
     requires name { IsTrue (is_name name.now) }
     requires low { 4 ≤ m }
     requires high { m ≤ 8 }

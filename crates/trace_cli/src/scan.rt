@@ -32,7 +32,17 @@ pub fn scan<F: Field, P: Ledger, Q: Ledger>(
     let code = Code::<F>::new(word.len(), valid_dimension(register)).unwrap();
     let mut accused = Vec::new(alloc);
     'serials: for serial in 0..register.len() {
-        consider(alloc, register, &code, word, bound, serial, &mut accused, prods, looks)?;
+        consider(
+            alloc,
+            register,
+            &code,
+            word,
+            bound,
+            serial,
+            &mut accused,
+            prods,
+            looks,
+        )?;
     }
     Ok(Findings {
         readable: word.readable(),
@@ -64,13 +74,23 @@ fn consider<F: Field, P: Ledger, Q: Ledger>(
     if meets(code, message, word, bound, prods) {
         let name = name_of(alloc, register, serial, looks)?;
         let places = code.places(alloc, message, word, prods)?;
-        accused.push(Accused { serial, name, places })?;
+        accused.push(Accused {
+            serial,
+            name,
+            places,
+        })?;
     }
     Ok(())
 }
 
 /// Whether the message agrees with at least r/c of the r readable places, for the bound c.
-fn meets<F: Field, P: Ledger>(code: &Code<F>, message: Message, word: &Word, bound: u32, prods: &mut Steps<P>) -> bool
+fn meets<F: Field, P: Ledger>(
+    code: &Code<F>,
+    message: Message,
+    word: &Word,
+    bound: u32,
+    prods: &mut Steps<P>,
+) -> bool
     requires length { length word.now ≡ code.now.places }
     requires message { message < 2 ^ (F.BITS * code.now.dimension) }
     requires bound { bound ≤ 8 }
@@ -90,7 +110,12 @@ fn message_of<Q: Ledger>(register: &Register, serial: u32, looks: &mut Steps<Q>)
 }
 
 /// A copy of the name of an enrolled licensee.
-fn name_of<Q: Ledger>(alloc: Global, register: &Register, serial: u32, looks: &mut Steps<Q>) -> Result<Text, Memory>
+fn name_of<Q: Ledger>(
+    alloc: Global,
+    register: &Register,
+    serial: u32,
+    looks: &mut Steps<Q>,
+) -> Result<Text, Memory>
     requires { serial < length register.now.names }
     ensures { IfOk result (λ name. name ≡ slice_index_or register.now.names serial []) }
 {

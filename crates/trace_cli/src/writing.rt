@@ -18,7 +18,14 @@ use std::alloc::Global;
 
 /// The text of a register without licensees. A number past 32 bits breaks the rule on it like any other.
 #[tactic(auto, unfolding(outcome_terms::specs::Outcome::make_outcome))]
-pub fn register_text_of<Q: Ledger>(alloc: Global, m: u128, k: u128, a: u128, b: u128, looks: &mut Steps<Q>) -> Result<Vec<u8>, Refusal>
+pub fn register_text_of<Q: Ledger>(
+    alloc: Global,
+    m: u128,
+    k: u128,
+    a: u128,
+    b: u128,
+    looks: &mut Steps<Q>,
+) -> Result<Vec<u8>, Refusal>
     ensures text { Answers (λ text. text.items) result (make_outcome m k a b) }
     ensures inner { IfErr result IsInner }
 {
@@ -26,7 +33,9 @@ pub fn register_text_of<Q: Ledger>(alloc: Global, m: u128, k: u128, a: u128, b: 
         Ok(register) => Ok(register.write(alloc, looks)?),
         Err(RegisterError::BadM) => Err(Refusal::BadParameters(RegisterKind::BadM)),
         Err(RegisterError::BadK) => Err(Refusal::BadParameters(RegisterKind::BadK)),
-        Err(RegisterError::BadMultiplier) => Err(Refusal::BadParameters(RegisterKind::BadMultiplier)),
+        Err(RegisterError::BadMultiplier) => Err(Refusal::BadParameters(
+            RegisterKind::BadMultiplier,
+        )),
         Err(RegisterError::BadShift) => Err(Refusal::BadParameters(RegisterKind::BadShift)),
     }
 }
@@ -79,7 +88,12 @@ fn enrol(register: &mut Register, name: &str) -> Result<(), Refusal>
 }
 
 /// Writes a blob.
-pub fn write_blob<S: Shelf>(alloc: Global, shelf: &mut S, out: &str, text: &[u8]) -> Result<(), Refusal>
+pub fn write_blob<S: Shelf>(
+    alloc: Global,
+    shelf: &mut S,
+    out: &str,
+    text: &[u8],
+) -> Result<(), Refusal>
     requires { IsTrue (is_name out.now) }
     ensures done { OnOk result (OnlyInserts out.now text.now (S.holds shelf.old) (S.holds shelf.new)) }
     ensures refused { OnErr result (OnlyWrites (Some out.now) (S.holds shelf.old) (S.holds shelf.new)) }

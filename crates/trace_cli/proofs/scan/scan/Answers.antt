@@ -26,5 +26,5 @@ pub returns : goal.returns
 returns g c =
     let all : length c.args.register.now.names ≡ c.serials.serial = omega arith in
     let list : c.over.result ≡ (findings c.args.register.now c.args.word.now c.args.bound).accused =
-        c.over.ensures ∙ c.serials.invariant ∙ accused_below-all c.args.register.now c.args.word.now c.args.bound c.serials.serial all in
+    c.over.ensures ∙ c.serials.invariant ∙ accused_below-all c.args.register.now c.args.word.now c.args.bound c.serials.serial all in
     findings_made c.args.register.now c.args.word.now c.args.bound c.readable.result c.over.result c.readable.ensures list

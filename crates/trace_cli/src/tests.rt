@@ -1,0 +1,5 @@
+//! The program's call over blobs in memory.
+
+mod accuse;
+mod calls;
+mod registers;

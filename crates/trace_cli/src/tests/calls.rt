@@ -1,0 +1,77 @@
+//! How a test calls the program.
+
+ghost use Rattle.std.specs.Prelude.{◌≡◌, ◌<◌};
+
+use crate::run;
+use shelf_io::{MemShelf, MemSink, Memory};
+use std::alloc::Global;
+use std::marker::Brand;
+use std::sync::ledger::Blank;
+use steps::{Ledger, Steps};
+
+/// What a call put out, with its status in front.
+pub fn call(alloc: Global, shelf: &mut MemShelf, line: &str) -> Result<String, Memory> {
+    let mut out = MemSink::new(alloc);
+    call_into(alloc, shelf, &mut out, line)
+}
+
+/// The same over this output.
+pub fn call_into(
+    alloc: Global,
+    shelf: &mut MemShelf,
+    out: &mut MemSink,
+    line: &str,
+) -> Result<String, Memory> {
+    let mut words = Vec::new(alloc);
+    for word in line.split_whitespace() {
+        words.push(String::from_str(alloc, word)?)?;
+    }
+    let status = counted::<Brand, Brand>(
+        alloc,
+        words.as_slice(),
+        shelf,
+        out,
+        Blank::new(1),
+        Blank::new(1),
+    );
+    let bytes = out.bytes();
+    let text = std::str::from_utf8(bytes).unwrap_or("no text");
+    Ok(format!(in alloc; "{status}: {text}")?)
+}
+
+fn counted<P: Ledger, Q: Ledger>(
+    alloc: Global,
+    words: &[String],
+    shelf: &mut MemShelf,
+    out: &mut MemSink,
+    prods: Blank,
+    looks: Blank,
+) -> u8
+    requires prods_name { prods.name ≡ P.name }
+    requires prods_parts { prods.parts ≡ P.parts }
+    requires prods_some { 0 < P.parts }
+    requires looks_name { looks.name ≡ Q.name }
+    requires looks_parts { looks.parts ≡ Q.parts }
+    requires looks_some { 0 < Q.parts }
+{
+    let mut prods = Steps::<P>::new(prods);
+    let mut looks = Steps::<Q>::new(looks);
+    run(alloc, words, shelf, out, &mut prods, &mut looks).code()
+}
+
+/// A register's text over codewords of `k` symbols of `m` bits, multiplier 1 and shift 0, with so many licensees, `lic0`, `lic1` and so on.
+pub fn register(alloc: Global, m: u32, k: u32, licensees: u32) -> Result<String, Memory> {
+    let mut text = format!(in alloc; "register 1\nm {m}\nk {k}\na 1\nb 0\n")?;
+    for serial in 0..licensees {
+        write!(text, "lic{serial}\n")?;
+    }
+    Ok(text)
+}
+
+/// A shelf with this register under `reg` and this word under `w`.
+pub fn shelf(alloc: Global, register: &str, word: &str) -> Result<MemShelf, Memory> {
+    let mut shelf = MemShelf::new(alloc);
+    shelf.hold("reg", register.as_bytes())?;
+    shelf.hold("w", word.as_bytes())?;
+    Ok(shelf)
+}

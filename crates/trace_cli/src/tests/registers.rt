@@ -1,0 +1,63 @@
+//! `register` and `enrol`.
+
+use super::calls::{call, register};
+use shelf_io::{MemShelf, Shelf};
+use std::test::Fail;
+
+/// One call after another on one shelf, and what each puts out.
+const CALLS: [(&str, &str); 14] = [
+    ("register 4 2 1 0 r0", "0: "),
+    ("enrol r0 lic0 r1", "0: "),
+    ("enrol r1 lic0 r2", "16: error 16 0\n"),
+    ("enrol r1 a/b r2", "17: error 17 name\n"),
+    ("enrol r1 lic1 r1", "21: error 21 r1\n"),
+    ("enrol r2 lic1 r3", "3: error 3 r2\n"),
+    ("register 4 2 2 0 r0", "24: error 24 bad-multiplier\n"),
+    ("register 9 2 1 0 r9", "24: error 24 bad-m\n"),
+    ("register 4294967300 2 1 0 r9", "24: error 24 bad-m\n"),
+    ("register 4 14 1 0 r9", "24: error 24 bad-k\n"),
+    ("register 4 2 1 256 r9", "24: error 24 bad-shift\n"),
+    ("register 4 2 1 r9", "2: error 2 words\n"),
+    ("enrol full lic256 r4", "18: error 18 256\n"),
+    ("enrol cut lic r4", "11: error 11 4 header\n"),
+];
+
+#[test]
+fn registers_are_written(rt: HostRuntime) -> Result<(), Fail> {
+    let alloc = rt.alloc();
+    let mut shelf = MemShelf::new(alloc);
+    shelf.hold("full", register(alloc, 4, 2, 256)?.as_bytes())?;
+    shelf.hold("cut", b"register 1\nm 4\nk 2\n")?;
+    for (line, wanted) in CALLS {
+        let got = call(alloc, &mut shelf, line)?;
+        assert_eq!(rt; got.as_str(), wanted, "at {line}");
+    }
+    for (name, text) in [
+        ("r0", "register 1\nm 4\nk 2\na 1\nb 0\n"),
+        ("r1", "register 1\nm 4\nk 2\na 1\nb 0\nlic0\n"),
+    ] {
+        let part = shelf.part(alloc, name, 0, 1000).ok().ok_or("no such blob")?;
+        assert_eq!(rt; part.as_slice(), text.as_bytes(), "under {name}");
+    }
+    for name in ["r2", "r3", "r4", "r9"] {
+        assert!(rt; shelf.part(alloc, name, 0, 1).is_err());
+    }
+    Ok(())
+}
+
+/// The write fails: the register that was read stays.
+#[test]
+fn a_write_fails(rt: HostRuntime) -> Result<(), Fail> {
+    let alloc = rt.alloc();
+    let mut shelf = MemShelf::new(alloc);
+    shelf.hold("r0", b"register 1\nm 4\nk 2\na 1\nb 0\n")?;
+    shelf.fail(3)?;
+    let got = call(alloc, &mut shelf, "enrol r0 lic0 r1")?;
+    assert_eq!(rt; got.as_str(), "5: error 5 r1\n");
+    let part = shelf.part(alloc, "r0", 0, 1000).ok().ok_or("no such blob")?;
+    assert_eq!(rt;
+        part.as_slice(),
+        b"register 1\nm 4\nk 2\na 1\nb 0\n".as_slice()
+    );
+    Ok(())
+}
