@@ -1,0 +1,4 @@
+pub mod Horner
+pub mod Filling
+pub mod Multiplying
+pub mod RootsBelow

@@ -1,0 +1,174 @@
+//! Polynomials whose sums, products, quotients, values and roots are known from elsewhere.
+
+ghost use Rattle.std.specs.Prelude.{◌≡◌, ◌<◌};
+
+use crate::{Poly, PolyList};
+use gf2m::{Field, Gf, Ledger, Steps};
+use std::alloc::Global;
+use std::marker::Brand;
+use std::process::Abort;
+use std::sync::ledger::Blank;
+
+/// The same call at each of the five fields, one after the other.
+macro_rules! in_each_field {
+    ($rt:expr; $call:ident($($argument:expr),*) is $want:expr) => {
+        assert!($rt; $call::<Gf<4>, P>($($argument),*) == $want);
+        assert!($rt; $call::<Gf<5>, P>($($argument),*) == $want);
+        assert!($rt; $call::<Gf<6>, P>($($argument),*) == $want);
+        assert!($rt; $call::<Gf<7>, P>($($argument),*) == $want);
+        assert!($rt; $call::<Gf<8>, P>($($argument),*) == $want);
+    };
+}
+
+fn polynomial<F: Field>(alloc: Global, numbers: &[u8]) -> Option<Poly<F>> {
+    let mut coefs = Vec::new(alloc);
+    for number in numbers {
+        coefs.push(F::of(*number)?).ok()?;
+    }
+    Poly::from(alloc, &coefs).ok()
+}
+
+fn has<F: Field>(elements: &[F], numbers: &[u8]) -> bool {
+    if elements.len() != numbers.len() {
+        return false;
+    }
+    elements.iter().zip(numbers).all(|(element, number)| element.to() == *number)
+}
+
+/// Whether the sum has these coefficients.
+fn adds<F: Field, P: Ledger>(alloc: Global, left: &[u8], right: &[u8], want: &[u8]) -> Option<bool> {
+    let left = polynomial::<F>(alloc, left)?;
+    let right = polynomial::<F>(alloc, right)?;
+    let sum = left.add(alloc, &right).ok()?;
+    Some(has(sum.as_slice(), want))
+}
+
+/// Whether the product has these coefficients.
+fn multiplies<F: Field, P: Ledger>(
+    alloc: Global,
+    left: &[u8],
+    right: &[u8],
+    want: &[u8],
+    prods: &mut Steps<P>,
+) -> Option<bool> {
+    let left = polynomial::<F>(alloc, left)?;
+    let right = polynomial::<F>(alloc, right)?;
+    let product = left.mul(alloc, &right, prods).ok()?;
+    Some(has(product.as_slice(), want))
+}
+
+/// Whether the division by x + 1 gives this quotient and this rest.
+fn divides<F: Field, P: Ledger>(
+    alloc: Global,
+    whole: &[u8],
+    quotient: &[u8],
+    rest: u8,
+    prods: &mut Steps<P>,
+) -> Option<bool> {
+    let whole = polynomial::<F>(alloc, whole)?;
+    let (part, left) = whole.div_linear(alloc, F::one(), prods).ok()?;
+    Some(has(part.as_slice(), quotient) && left.to() == rest)
+}
+
+/// Whether these are the roots.
+fn has_roots<F: Field, P: Ledger>(
+    alloc: Global,
+    whole: &[u8],
+    roots: &[u8],
+    prods: &mut Steps<P>,
+) -> Option<bool> {
+    let whole = polynomial::<F>(alloc, whole)?;
+    let found = whole.roots(alloc, prods).ok()?;
+    Some(has(found.as_slice(), roots))
+}
+
+/// Whether these are the values at the elements with the numbers 0, 1, 2 and so on.
+fn has_values<F: Field, P: Ledger>(
+    alloc: Global,
+    whole: &[u8],
+    values: &[u8],
+    prods: &mut Steps<P>,
+) -> Option<bool> {
+    let whole = polynomial::<F>(alloc, whole)?;
+    let mut number = 0;
+    for value in values {
+        if number > 7 || whole.eval(F::of(number)?, prods).to() != *value {
+            return Some(false);
+        }
+        number += 1;
+    }
+    Some(true)
+}
+
+fn known_in_each_field<P: Ledger>(rt: &impl Abort, alloc: Global, blank: Blank)
+    requires name { blank.name ≡ P.name }
+    requires parts { blank.parts ≡ P.parts }
+    requires some { 0 < P.parts }
+{
+    let mut prods = Steps::<P>::new(blank);
+    in_each_field!(rt; adds(alloc, &[1, 1], &[1, 1], &[]) is Some(true));
+    in_each_field!(rt; adds(alloc, &[], &[], &[]) is Some(true));
+    in_each_field!(rt; adds(alloc, &[5], &[3, 0, 1], &[6, 0, 1]) is Some(true));
+    in_each_field!(rt; multiplies(alloc, &[1, 1], &[1, 1], &[1, 0, 1], &mut prods) is Some(true));
+    in_each_field!(rt; multiplies(alloc, &[], &[1, 1], &[], &mut prods) is Some(true));
+    in_each_field!(rt; multiplies(alloc, &[3], &[0, 0, 1, 0], &[0, 0, 3], &mut prods) is Some(true));
+    in_each_field!(rt; divides(alloc, &[1, 0, 1], &[1, 1], 0, &mut prods) is Some(true));
+    in_each_field!(rt; divides(alloc, &[7], &[], 7, &mut prods) is Some(true));
+    in_each_field!(rt; divides(alloc, &[], &[], 0, &mut prods) is Some(true));
+    in_each_field!(rt; has_roots(alloc, &[0, 1, 1], &[0, 1], &mut prods) is Some(true));
+    in_each_field!(rt; has_roots(alloc, &[1, 0, 1], &[1], &mut prods) is Some(true));
+    in_each_field!(rt; has_roots(alloc, &[9, 1], &[9], &mut prods) is Some(true));
+    in_each_field!(rt; has_roots(alloc, &[4], &[], &mut prods) is Some(true));
+}
+
+#[test]
+fn agrees_with_known_cases_in_each_field(rt: HostRuntime) {
+    known_in_each_field::<Brand>(&rt, rt.alloc(), Blank::new(1));
+}
+
+fn known_in_some_field<P: Ledger>(rt: &impl Abort, alloc: Global, blank: Blank)
+    requires name { blank.name ≡ P.name }
+    requires parts { blank.parts ≡ P.parts }
+    requires some { 0 < P.parts }
+{
+    let mut prods = Steps::<P>::new(blank);
+    let all = [0, 1, 2, 3, 4, 5, 6, 7, 8, 9, 10, 11, 12, 13, 14, 15];
+    let power = [0, 1, 0, 0, 0, 0, 0, 0, 0, 0, 0, 0, 0, 0, 0, 0, 1];
+    assert!(rt; has_roots::<Gf<4>, P>(alloc, &power, &all, &mut prods) == Some(true));
+    assert!(rt; has_roots::<Gf<4>, P>(alloc, &[2, 4, 9, 1], &[2, 9], &mut prods) == Some(true));
+    assert!(rt; has_roots::<Gf<4>, P>(alloc, &[1, 1, 1], &[6, 7], &mut prods) == Some(true));
+    assert!(rt; has_roots::<Gf<5>, P>(alloc, &[1, 1, 1], &[], &mut prods) == Some(true));
+    assert!(rt; has_roots::<Gf<7>, P>(alloc, &[1, 1, 1], &[], &mut prods) == Some(true));
+    assert!(rt; has_roots::<Gf<8>, P>(alloc, &[1, 1, 1], &[214, 215], &mut prods) == Some(true));
+    let coefs = [5, 7, 11];
+    let of_4 = [5, 9, 1, 13, 4, 8, 0, 12];
+    let of_5 = [5, 9, 2, 14, 24, 20, 31, 19];
+    let of_6 = [5, 9, 39, 43, 47, 35, 13, 1];
+    let of_7 = [5, 9, 39, 43, 32, 44, 2, 14];
+    let of_8 = [5, 9, 39, 43, 169, 165, 139, 135];
+    assert!(rt; has_values::<Gf<4>, P>(alloc, &coefs, &of_4, &mut prods) == Some(true));
+    assert!(rt; has_values::<Gf<5>, P>(alloc, &coefs, &of_5, &mut prods) == Some(true));
+    assert!(rt; has_values::<Gf<6>, P>(alloc, &coefs, &of_6, &mut prods) == Some(true));
+    assert!(rt; has_values::<Gf<7>, P>(alloc, &coefs, &of_7, &mut prods) == Some(true));
+    assert!(rt; has_values::<Gf<8>, P>(alloc, &coefs, &of_8, &mut prods) == Some(true));
+}
+
+#[test]
+fn agrees_with_known_cases_in_some_field(rt: HostRuntime) {
+    known_in_some_field::<Brand>(&rt, rt.alloc(), Blank::new(1));
+}
+
+fn shape(alloc: Global, numbers: &[u8]) -> Option<(Option<usize>, u8, u8)> {
+    let whole = polynomial::<Gf<4>>(alloc, numbers)?;
+    Some((whole.degree(), whole.coef(1).to(), whole.coef(7).to()))
+}
+
+#[test]
+fn knows_its_degree_and_coefficients(rt: HostRuntime) {
+    let alloc = rt.alloc();
+    assert!(&rt; shape(alloc, &[3, 5, 0, 9, 0, 0]) == Some((Some(3), 5, 0)));
+    assert!(&rt; shape(alloc, &[6]) == Some((Some(0), 0, 0)));
+    assert!(&rt; shape(alloc, &[0, 0]) == Some((None, 0, 0)));
+    let none: PolyList<Gf<4>> = PolyList::over(Vec::new(alloc));
+    assert!(&rt; none.is_empty());
+}
