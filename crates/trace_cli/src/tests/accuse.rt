@@ -177,9 +177,10 @@ fn failures_outside(rt: HostRuntime) -> Result<(), Fail> {
         first_put_fails(alloc, &mut shelf, "accuse reg w 1")?.as_str(),
         "6: {\"accused\":[{\"name\":\"lic5\",\"places\":[0,"
     );
+    let mut shelf = calls::shelf(alloc, twenty.as_str(), "0,1,2,3,0,0,0,1,1,-")?;
     assert_eq!(rt;
-        first_put_fails(alloc, &mut shelf, "accuse reg w 9")?.as_str(),
-        "14: error "
+        first_put_fails(alloc, &mut shelf, "accuse reg w 3")?.as_str(),
+        "15: error "
     );
     Ok(())
 }
