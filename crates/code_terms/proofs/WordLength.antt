@@ -1,10 +1,10 @@
 -- How many places the word of a text has: at least one, and at most as many as there are symbols.
-use Rattle.std.proofs.Common.{◌≡◌, ℕ, suc, ◌+◌, ◌^◌, ◌<◌, ◌≤◌, List, [], ◌∷◌, length, Bool, true, false, cond, Option, None, Some, Result, Ok, Err, refl, sym, ap, ◌∙◌, arith, nat_le, nat_eq}
+use Rattle.std.proofs.Common.{◌≡◌, ℕ, suc, ◌+◌, ◌^◌, ◌≤◌, List, [], ◌∷◌, length, Bool, true, false, cond, Option, None, Some, Result, Ok, Err, refl, sym, ap, arith, nat_le, nat_eq}
 use Rattle.std.proofs.lemmas.Bool.Decides.{nat_tests}
 use Rattle.std.proofs.lemmas.List.Splits.{length-slice_split}
 use Rattle.code_terms.specs.declared.word_fault.WordFault.{WordFault}
-use Rattle.code_terms.specs.declared.word_fault.WordFault.TheVariants.{Token, Long}
-use Rattle.code_terms.specs.WordText.{without_line_feed, tokens_of, with_slot, first_and_rest, slot_of, slots_from, word_of}
+use Rattle.code_terms.specs.declared.word_fault.WordFault.TheVariants.{Long}
+use Rattle.code_terms.specs.WordText.{without_line_feed, tokens_of, first_and_rest, slot_of, slots_from, word_of}
 
 pub record HasLength (low high : ℕ) (word : List (Option ℕ)) : Type 0 where
   pub least : low ≤ length word

@@ -41,9 +41,9 @@ accused_below-all e word c n same = ap (λ m. map (accusation e word) (filter (m
 
 -- the findings, from their two parts
 pub findings_made : (e : Enrolment) (word : List (Option ℕ)) (c r : ℕ) (list : List Accused) → r ≡ readable word → list ≡ (findings e word c).accused
-    → record {readable = r; bound = c; accused = list} ≡ findings e word c
+    → record { readable = r; bound = c; accused = list } ≡ findings e word c
 unfolding findings
 findings_made e word c r list same_count same_list =
-    let by_count : ℕ → Findings = λ x. record {readable = x; bound = c; accused = list} in
-    let by_list : List Accused → Findings = λ y. record {readable = readable word; bound = c; accused = y} in
+    let by_count : ℕ → Findings = λ x. record { readable = x; bound = c; accused = list } in
+    let by_list : List Accused → Findings = λ y. record { readable = readable word; bound = c; accused = y } in
     ap by_count same_count ∙ ap by_list same_list

@@ -1,5 +1,5 @@
 -- What a call's status says, from all that is promised of the call.
-use Rattle.std.proofs.Common.{Bool, ◌≡◌, ◌≢◌, ℕ, List, true, false, Option, Some, None, Result, Ok, Err, refl, sym, ap, ◌∙◌, subst, inl, inr, ◌⊎◌, ◌≤◌, arith}
+use Rattle.std.proofs.Common.{Bool, ◌≡◌, ◌≢◌, ℕ, List, true, false, Option, Some, None, Result, Ok, Err, refl, sym, ap, ◌∙◌, inl, inr, ◌⊎◌, arith}
 use Rattle.std.specs.Option.{IfSome}
 use Rattle.std.specs.Result.{result_err}
 use Rattle.shelf_terms.specs.Blobs.{Blobs}
@@ -12,7 +12,7 @@ use Rattle.outcome_terms.specs.declared.refusal.Refusal.{Refusal}
 use Rattle.outcome_terms.specs.declared.refusal.Refusal.TheVariants as refusal
 use Rattle.outcome_terms.specs.Commands.{request_of}
 use Rattle.outcome_terms.specs.Statuses.{refusal_status}
-use Rattle.outcome_terms.specs.Outcome.{Effect, outcome_of, outcome}
+use Rattle.outcome_terms.specs.Outcome.{Effect, outcome}
 use Rattle.outcome_terms.specs.Endings.{Ends, Answers, Follows, CommandCauses, StatusCauses, effect_text, outcome_status, is_free, is_free_status, is_read_fault, is_missing, is_write_fault, refused_as, blames, IsInner}
 
 -- a refusal whose status is decided is decided
@@ -159,12 +159,12 @@ calls_then {first} {between} {last} a b =
 -- a call that was not refused, and then a refusal for another cause than the outside
 pub then_refused : {first last : Tally} → CommandCauses first last None → (e : Refusal) → IsInner e → CommandCauses first last (Some e)
 then_refused a e inner =
-  let r = inner.no_read_fault in let m = inner.no_missing in let w = inner.no_write_fault in record {
-  faults_stay = a.faults_stay;
-  misses_stay = a.misses_stay;
-  writes_stay = a.writes_stay;
-  fault = λ h. let no : true ≡ false = sym h ∙ r in cc;
-  blamed = λ h. let no : true ≡ false = sym h ∙ r in cc;
-  missing = λ h. let no : true ≡ false = sym h ∙ m in cc;
-  write_fault = λ h. let no : true ≡ false = sym h ∙ w in cc;
-}
+    let r = inner.no_read_fault in let m = inner.no_missing in let w = inner.no_write_fault in record {
+      faults_stay = a.faults_stay;
+      misses_stay = a.misses_stay;
+      writes_stay = a.writes_stay;
+      fault = λ h. let no : true ≡ false = sym h ∙ r in cc;
+      blamed = λ h. let no : true ≡ false = sym h ∙ r in cc;
+      missing = λ h. let no : true ≡ false = sym h ∙ m in cc;
+      write_fault = λ h. let no : true ≡ false = sym h ∙ w in cc;
+    }

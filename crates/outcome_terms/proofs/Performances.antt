@@ -1,5 +1,5 @@
 -- What the commands perform, from what their parts answer.
-use Rattle.std.proofs.Common.{Bool, ◌≡◌, ◌≢◌, ℕ, List, [], ◌∷◌, true, false, Option, Some, None, Result, Ok, Err, is_some, cond, arith, refl, sym, ap, ◌∙◌, subst}
+use Rattle.std.proofs.Common.{◌≡◌, ℕ, List, [], true, false, Option, Some, None, Result, Ok, Err, is_some, cond, arith, refl, sym, ap, ◌∙◌, subst}
 use Rattle.std.specs.Option.{IfSome}
 use Rattle.std.specs.Result.{result_err}
 use Rattle.std.specs.FinMap.{insert, get-insert}
@@ -11,8 +11,8 @@ use Rattle.shelf_terms.specs.Counts.{Tally}
 use Rattle.outcome_terms.specs.declared.refusal.Refusal.{Refusal}
 use Rattle.outcome_terms.specs.declared.refusal.Refusal.TheVariants as refusal
 use Rattle.outcome_terms.specs.Commands.{Request, Accuse}
-use Rattle.outcome_terms.specs.Outcome.{Effect, outcome_of, accuse_outcome, puts_out, writes_to}
-use Rattle.outcome_terms.specs.Endings.{Answers, CommandCauses, Performs, BlobsAfter, OnlyWrites, OnlyInserts, written_blob, effect_text, effect_blobs, keeps_blobs, refused_as, is_bad_words, is_free}
+use Rattle.outcome_terms.specs.Outcome.{outcome_of, accuse_outcome, puts_out, writes_to}
+use Rattle.outcome_terms.specs.Endings.{Answers, CommandCauses, Performs, OnlyWrites, OnlyInserts, written_blob, effect_text, effect_blobs, keeps_blobs, refused_as, is_bad_words, is_free}
 use Rattle.outcome_terms.proofs.Consequences.{over_told}
 
 never_bad_words : (answer : Result (List ℕ) Refusal) → refused_as is_bad_words (result_err answer) ≡ false → answer ≡ Err refusal.BadWords → ⊥

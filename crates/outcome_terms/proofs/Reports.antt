@@ -21,7 +21,7 @@ use Rattle.outcome_terms.specs.declared.refusal.Refusal.TheVariants as refusal
 use Rattle.outcome_terms.specs.Statuses.{refusal_status}
 use Rattle.outcome_terms.proofs.Consequences.{over_told}
 use Rattle.outcome_terms.specs.Commands.{Request, Accuse, request_of}
-use Rattle.outcome_terms.specs.Outcome.{◌>>=◌, blob_limit, within_limit, read_blob, register_or_refusal, word_or_refusal, read_register, read_word, report_of, allowed_bound, accuse_outcome, puts_out, request_outcome, outcome_of, outcome}
+use Rattle.outcome_terms.specs.Outcome.{◌>>=◌, blob_limit, within_limit, read_blob, register_or_refusal, word_or_refusal, read_register, read_word, report_of, allowed_bound, accuse_outcome, puts_out, outcome_of, outcome}
 use Rattle.outcome_terms.specs.Endings.{Ends, Performs, Answers, Follows, TellsOut, TellsReport, IsReport, effect_text}
 
 -- a chain that is not refused: its first step was not, and what follows

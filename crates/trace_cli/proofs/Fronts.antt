@@ -1,14 +1,13 @@
 -- What stands in an output after one put or two, from what each of them says.
-use Rattle.std.proofs.Common.{◌≡◌, ◌≢◌, ℕ, ◌-◌, ◌≤◌, List, ◌++◌, length, take, Option, Some, None, Result, Ok, Err, refl, sym, ap, ◌∙◌, subst, inl, inr, arith, length-append}
+use Rattle.std.proofs.Common.{◌≡◌, ℕ, ◌-◌, List, ◌++◌, length, Option, Some, None, Result, Ok, Err, refl, sym, ap, ◌∙◌, subst, inl, inr, arith, length-append}
 use Rattle.std.proofs.lemmas.List.{take_all}
 use Rattle.shelf_terms.specs.Puts.{Puts}
 use Rattle.shelf_io.specs.declared.errors.SinkError.{SinkError}
 use Rattle.shelf_io.specs.Puts.{PutGives}
-use Rattle.outcome_terms.specs.declared.status.Status.{Status}
 use Rattle.outcome_terms.specs.declared.status.Status.TheVariants as status
 use Rattle.outcome_terms.specs.declared.refusal.Refusal.{Refusal}
 use Rattle.outcome_terms.specs.Statuses.{refusal_status, error_text}
-use Rattle.outcome_terms.specs.Endings.{TellsOut, TellsFront, PutsAnswer, PutsRefusal, PutsBoth, memory_line}
+use Rattle.outcome_terms.specs.Endings.{TellsOut, TellsFront, memory_line}
 
 -- all of a text is a front of it
 pub puts_whole : (old new text : List ℕ) → new ≡ old ++ text → Puts old new text

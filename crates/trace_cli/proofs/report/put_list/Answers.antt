@@ -1,4 +1,4 @@
-use Rattle.std.proofs.Common.{◌∙◌, ap, sym, ◌++◌}
+use Rattle.std.proofs.Common.{◌∙◌, ap, ◌++◌}
 use Rattle.std.specs.String.{string_bytes}
 use Rattle.desk_terms.specs.Report.{accused_text}
 use Rattle.desk_terms.proofs.Commas.{comma_separated_step}

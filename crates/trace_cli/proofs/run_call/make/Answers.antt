@@ -1,4 +1,4 @@
-use Rattle.std.proofs.Common.{◌∙◌, ◌≡◌, refl, Some, Ok, subst, sym, ap}
+use Rattle.std.proofs.Common.{refl, subst}
 use Rattle.outcome_terms.specs.Commands.{Make}
 use Rattle.outcome_terms.specs.Outcome.{make_outcome}
 use Rattle.outcome_terms.specs.Endings.{OnlyInserts}

@@ -1,7 +1,7 @@
-use Rattle.std.proofs.Common.{◌∙◌, sym, ap, ◌++◌, ◌≡◌, ◌^◌, ◌<◌, ℕ, length, arith, inl, inr}
+use Rattle.std.proofs.Common.{◌∙◌, sym, ap, ◌++◌, ◌≡◌, ◌^◌, length, arith, inl, inr}
 use Rattle.desk_terms.specs.Scan.{accusations_at}
 use Rattle.desk_terms.specs.Findings.{findings}
-use Rattle.desk_terms.proofs.Scans.{accused_below, accused_below-none, accused_below-more, accused_below-all, findings_made}
+use Rattle.desk_terms.proofs.Scans.{accused_below-none, accused_below-more, accused_below-all, findings_made}
 use Rattle.trace_cli.proofs.Codes.{code_made}
 use Rattle.trace_cli.proofs.scan.scan.Goals as goal
 
