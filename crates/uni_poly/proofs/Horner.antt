@@ -1,5 +1,5 @@
 -- Values by nested products, and the division by x + a that comes with them.
-use Rattle.std.proofs.Common.{◌≡◌, inl, inr, ℕ, zero, suc, ◌+◌, ◌-◌, ◌<◌, ◌≤◌, List, length, get_or, refl, sym, ◌∙◌, ap, ap₂, arith}
+use Rattle.std.proofs.Common.{◌≡◌, inl, inr, ℕ, zero, suc, ◌+◌, ◌-◌, ◌≤◌, List, length, sym, ◌∙◌, ap, ap₂, arith}
 use Rattle.std.proofs.lemmas.Bool.{cases_lt}
 use mathlib.Core.Path.{fun_ext}
 use Rattle.algebra.specs.Ring.{Ring}
@@ -31,23 +31,23 @@ module _ {F : Type 0} (R : Ring F) (xs : List F) (a : F) where
   pub value_from-step : (i : ℕ) → value_from i ≡ value_from (suc i) ⊗ a ⊕ coefficients R xs i
   unfolding value_from
   value_from-step i = elim (cases_lt i (length xs)) [
-      inl l ↦
+    | inl l ↦
         let more : length xs - i ≡ suc (length xs - suc i) = omega arith in
         let here : i + 0 ≡ i = omega arith in
         let next : (k : ℕ) → i + suc k ≡ suc i + k = λ k. omega arith in
         ap (λ n. nested R (λ t. t) n (λ k. coefficients R xs (i + k)) a) more
         ∙ nested_next R R (λ t. t) (itself R) (length xs - suc i) (λ k. coefficients R xs (i + k)) a
         ∙ ap₂ (λ (s t : F). s ⊕ t)
-          (ap (coefficients R xs) here)
-          (R.times_comm a (nested R (λ t. t) (length xs - suc i) (λ k. coefficients R xs (i + suc k)) a)
-          ∙ ap (λ (p : ℕ → F). nested R (λ t. t) (length xs - suc i) p a ⊗ a) (fun_ext (λ k. ap (coefficients R xs) (next k))))
+        (ap (coefficients R xs) here)
+        (R.times_comm a (nested R (λ t. t) (length xs - suc i) (λ k. coefficients R xs (i + suc k)) a)
+        ∙ ap (λ (p : ℕ → F). nested R (λ t. t) (length xs - suc i) p a ⊗ a) (fun_ext (λ k. ap (coefficients R xs) (next k))))
         ∙ R.plus_comm (coefficients R xs i) (value_from (suc i) ⊗ a)
     | inr l ↦
         let past : coefficients R xs i ≡ nil = coefficients_below R xs i l in
         let after : value_from (suc i) ≡ nil = value_from-end (suc i) (omega arith) in
         let none : nil ⊗ a ⊕ nil ≡ nil = simp ring in
         value_from-end i l ∙ sym (ap₂ (λ (s t : F). s ⊗ a ⊕ t) after past ∙ none)
-    ]
+  ]
 
   -- from the front on it is the whole value
   pub value_from-all : value_from 0 ≡ value R (length xs) (coefficients R xs) a
@@ -64,16 +64,18 @@ module _ {F : Type 0} (R : Ring F) (xs : List F) (a : F) where
     where
       at : (k : ℕ) → coefficients R whole k ≡ value_from (suc k)
       at k = list.each k ∙ each k
+
       again : (x y : F) → x ≡ y ⊕ (y ⊕ x)
       again x y = simp ring
+
       sums : (k : ℕ) → coefficients R xs k ≡ product R (linear R a) (coefficients R whole) k ⊕ constant R rest k
       sums zero =
           again (coefficients R xs 0) (value_from 1 ⊗ a)
           ∙ sym (ap₂ (λ (s t : F). s ⊕ t)
-            (linear_first R a (coefficients R whole) ∙ ap (λ t. a ⊗ t) (at 0) ∙ R.times_comm a (value_from 1))
-            (left ∙ value_from-step 0))
+          (linear_first R a (coefficients R whole) ∙ ap (λ t. a ⊗ t) (at 0) ∙ R.times_comm a (value_from 1))
+          (left ∙ value_from-step 0))
       sums (suc k) =
           let e : coefficients R xs (suc k) ≡ (value_from (suc (suc k)) ⊗ a ⊕ coefficients R xs (suc k)) ⊕ a ⊗ value_from (suc (suc k)) ⊕ nil = simp ring in
           e
           ∙ sym (ap (λ t. t ⊕ nil)
-            (linear_next R a (coefficients R whole) k ∙ ap₂ (λ (s t : F). s ⊕ a ⊗ t) (at k ∙ value_from-step (suc k)) (at (suc k))))
+          (linear_next R a (coefficients R whole) k ∙ ap₂ (λ (s t : F). s ⊕ a ⊗ t) (at k ∙ value_from-step (suc k)) (at (suc k))))

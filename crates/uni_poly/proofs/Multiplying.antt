@@ -1,11 +1,11 @@
 -- A product that grows factor by factor, from the last coefficient to the first.
-use Rattle.std.proofs.Common.{◌≡◌, inl, inr, ℕ, zero, suc, ◌+◌, ◌-◌, ◌<◌, ◌≤◌, List, [], ◌++◌, length, get_or, take, drop, refl, sym, ◌∙◌, ap, ap₂, arith}
+use Rattle.std.proofs.Common.{◌≡◌, inl, inr, ℕ, zero, suc, ◌+◌, ◌-◌, ◌<◌, ◌≤◌, List, ◌++◌, length, get_or, take, drop, refl, sym, ◌∙◌, ap, ap₂, arith}
 use Rattle.std.proofs.lemmas.Bool.{cases_lt}
 use Rattle.std.proofs.lemmas.List.{get_or-take, get_or-drop, get_or-append_right, length-take-le, length-drop}
 use Rattle.std.proofs.Math.ListN.{get_or-append}
 use Rattle.std.proofs.lemmas.Simd.{get_or-zip2, length-zip2}
 use Rattle.std.specs.Simd.Lanes.{zip2}
-use borrow.Rule.Slice.PartMut.{put_mid, post_of}
+use borrow.Rule.Slice.PartMut.{put_mid}
 use mathlib.Core.Path.{fun_ext}
 use Rattle.algebra.specs.Ring.{Ring}
 use Rattle.algebra.specs.Series.{product}
@@ -52,8 +52,8 @@ module _ {F : Type 0} (R : Ring F) where
           let after : (n : ℕ) → suc i + n ≡ i + suc n = λ n. omega arith in
           changed (suc k)
           ∙ ap₂ (λ (s t : F). s ⊕ t)
-            (ap (coefficients R old) next ∙ so_far.from k ∙ ap (λ (t : ℕ → F). product R t q k) (fun_ext (λ n. ap p (after n))))
-            (ap (λ n. p n ⊗ q (suc k)) (sym here))
+          (ap (coefficients R old) next ∙ so_far.from k ∙ ap (λ (t : ℕ → F). product R t q k) (fun_ext (λ n. ap p (after n))))
+          (ap (λ n. p n ⊗ q (suc k)) (sym here))
           ∙ sym (product_next R (λ n. p (i + n)) q k)
 
   -- all coefficients
@@ -70,26 +70,26 @@ module _ {F : Type 0} (R : Ring F) where
       let long : length new ≡ length ys = ap length is ∙ length-zip2 (λ (x y : F). x ⊕ f ⊗ y) (take m (drop a xs)) ys part ∙ part in
       let k_is : a + k - a ≡ k = omega arith in
       let behind : coefficients R (put_mid a m xs new) (a + k) ≡ coefficients R (new ++ drop m (drop a xs)) k =
-        get_or-append_right (take a xs) (new ++ drop m (drop a xs)) a (a + k) nil (length-take-le a xs (omega arith)) (omega arith)
-        ∙ ap (λ n. get_or (new ++ drop m (drop a xs)) n nil) k_is in
+      get_or-append_right (take a xs) (new ++ drop m (drop a xs)) a (a + k) nil (length-take-le a xs (omega arith)) (omega arith)
+      ∙ ap (λ n. get_or (new ++ drop m (drop a xs)) n nil) k_is in
       elim (cases_lt k (length ys)) [
-        inl l ↦
-          behind
-          ∙ get_or-append new (drop m (drop a xs)) nil k (omega arith)
-          ∙ ap (λ t. get_or t k nil) is
-          ∙ get_or-zip2 (λ (x y : F). x ⊕ f ⊗ y) (take m (drop a xs)) ys k nil nil nil (omega arith) l
-          ∙ ap (λ x. x ⊕ f ⊗ get_or ys k nil) (get_or-take m (drop a xs) k nil (omega arith) ∙ get_or-drop a xs k nil)
-      | inr l ↦
-          let none : coefficients R ys k ≡ nil = coefficients_below R ys k l in
-          let place : a + (m + (k - length new)) ≡ a + k = omega arith in
-          let same : coefficients R xs (a + k) ≡ coefficients R xs (a + k) ⊕ f ⊗ nil = simp ring in
-          behind
-          ∙ get_or-append_right new (drop m (drop a xs)) (length new) k nil refl (omega arith)
-          ∙ get_or-drop m (drop a xs) (k - length new) nil
-          ∙ get_or-drop a xs (m + (k - length new)) nil
-          ∙ ap (coefficients R xs) place
-          ∙ same
-          ∙ ap (λ t. coefficients R xs (a + k) ⊕ f ⊗ t) (sym none)
+        | inl l ↦
+            behind
+            ∙ get_or-append new (drop m (drop a xs)) nil k (omega arith)
+            ∙ ap (λ t. get_or t k nil) is
+            ∙ get_or-zip2 (λ (x y : F). x ⊕ f ⊗ y) (take m (drop a xs)) ys k nil nil nil (omega arith) l
+            ∙ ap (λ x. x ⊕ f ⊗ get_or ys k nil) (get_or-take m (drop a xs) k nil (omega arith) ∙ get_or-drop a xs k nil)
+        | inr l ↦
+            let none : coefficients R ys k ≡ nil = coefficients_below R ys k l in
+            let place : a + (m + (k - length new)) ≡ a + k = omega arith in
+            let same : coefficients R xs (a + k) ≡ coefficients R xs (a + k) ⊕ f ⊗ nil = simp ring in
+            behind
+            ∙ get_or-append_right new (drop m (drop a xs)) (length new) k nil refl (omega arith)
+            ∙ get_or-drop m (drop a xs) (k - length new) nil
+            ∙ get_or-drop a xs (m + (k - length new)) nil
+            ∙ ap (coefficients R xs) place
+            ∙ same
+            ∙ ap (λ t. coefficients R xs (a + k) ⊕ f ⊗ t) (sym none)
       ]
 
   pub added_from : (xs ys new : List F) (f : F) (a : ℕ) → a + length ys ≤ length xs → new ≡ zip2 (λ x y. x ⊕ f ⊗ y) (take (a + length ys - a) (drop a xs)) ys

@@ -53,12 +53,7 @@ pub(crate) fn zeros<F: Field>(alloc: Global, len: usize) -> Result<Vec<F>, Alloc
 }
 
 // Turns zeros into the product of two lists of coefficients.
-fn add_product<F: Field, P: Ledger>(
-    target: &mut [F],
-    left: &[F],
-    right: &[F],
-    prods: &mut Steps<P>,
-)
+fn add_product<F: Field, P: Ledger>(target: &mut [F], left: &[F], right: &[F], prods: &mut Steps<P>)
     requires room { length target.old ≡ length left.now + length right.now }
     requires zeros { (k : ℕ) → coefficients F.ring target.old k ≡ F.ring.nil }
     ensures value { (k : ℕ) → coefficients F.ring target.new k ≡ product F.ring (coefficients F.ring left.now) (coefficients F.ring right.now) k }

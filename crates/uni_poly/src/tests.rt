@@ -11,12 +11,12 @@ use std::sync::ledger::Blank;
 
 /// The same call at each of the five fields, one after the other.
 macro_rules! in_each_field {
-    ($rt:expr; $call:ident($($argument:expr),*) is $want:expr) => {
-        assert!($rt; $call::<Gf<4>, P>($($argument),*) == $want);
-        assert!($rt; $call::<Gf<5>, P>($($argument),*) == $want);
-        assert!($rt; $call::<Gf<6>, P>($($argument),*) == $want);
-        assert!($rt; $call::<Gf<7>, P>($($argument),*) == $want);
-        assert!($rt; $call::<Gf<8>, P>($($argument),*) == $want);
+    ($call:ident($($argument:expr),*) $(, $other:ty)*) => {
+        $call::<Gf<4> $(, $other)*>($($argument),*);
+        $call::<Gf<5> $(, $other)*>($($argument),*);
+        $call::<Gf<6> $(, $other)*>($($argument),*);
+        $call::<Gf<7> $(, $other)*>($($argument),*);
+        $call::<Gf<8> $(, $other)*>($($argument),*);
     };
 }
 
@@ -32,11 +32,14 @@ fn has<F: Field>(elements: &[F], numbers: &[u8]) -> bool {
     if elements.len() != numbers.len() {
         return false;
     }
-    elements.iter().zip(numbers).all(|(element, number)| element.to() == *number)
+    elements
+        .iter()
+        .zip(numbers)
+        .all(|(element, number)| element.to() == *number)
 }
 
 /// Whether the sum has these coefficients.
-fn adds<F: Field, P: Ledger>(alloc: Global, left: &[u8], right: &[u8], want: &[u8]) -> Option<bool> {
+fn adds<F: Field>(alloc: Global, left: &[u8], right: &[u8], want: &[u8]) -> Option<bool> {
     let left = polynomial::<F>(alloc, left)?;
     let right = polynomial::<F>(alloc, right)?;
     let sum = left.add(alloc, &right).ok()?;
@@ -100,33 +103,84 @@ fn has_values<F: Field, P: Ledger>(
     Some(true)
 }
 
-fn known_in_each_field<P: Ledger>(rt: &impl Abort, alloc: Global, blank: Blank)
+/// The sums that hold in every field with more than eight elements.
+fn has_sums<F: Field>(rt: &impl Abort, alloc: Global) {
+    assert!(rt; adds::<F>(alloc, &[1, 1], &[1, 1], &[]) == Some(true));
+    assert!(rt; adds::<F>(alloc, &[], &[], &[]) == Some(true));
+    assert!(rt; adds::<F>(alloc, &[5], &[3, 0, 1], &[6, 0, 1]) == Some(true));
+}
+
+#[test]
+fn adds_in_each_field(rt: HostRuntime) {
+    let alloc = rt.alloc();
+    in_each_field!(has_sums(&rt, alloc));
+}
+
+/// The products that hold in each of the fields.
+fn has_products<F: Field, P: Ledger>(rt: &impl Abort, alloc: Global, prods: &mut Steps<P>) {
+    assert!(rt; multiplies::<F, P>(alloc, &[1, 1], &[1, 1], &[1, 0, 1], prods) == Some(true));
+    assert!(rt; multiplies::<F, P>(alloc, &[], &[1, 1], &[], prods) == Some(true));
+    assert!(rt; multiplies::<F, P>(alloc, &[3], &[0, 0, 1, 0], &[0, 0, 3], prods) == Some(true));
+}
+
+fn known_products<P: Ledger>(rt: &impl Abort, alloc: Global, blank: Blank)
     requires name { blank.name ≡ P.name }
     requires parts { blank.parts ≡ P.parts }
     requires some { 0 < P.parts }
 {
     let mut prods = Steps::<P>::new(blank);
-    in_each_field!(rt; adds(alloc, &[1, 1], &[1, 1], &[]) is Some(true));
-    in_each_field!(rt; adds(alloc, &[], &[], &[]) is Some(true));
-    in_each_field!(rt; adds(alloc, &[5], &[3, 0, 1], &[6, 0, 1]) is Some(true));
-    in_each_field!(rt; multiplies(alloc, &[1, 1], &[1, 1], &[1, 0, 1], &mut prods) is Some(true));
-    in_each_field!(rt; multiplies(alloc, &[], &[1, 1], &[], &mut prods) is Some(true));
-    in_each_field!(rt; multiplies(alloc, &[3], &[0, 0, 1, 0], &[0, 0, 3], &mut prods) is Some(true));
-    in_each_field!(rt; divides(alloc, &[1, 0, 1], &[1, 1], 0, &mut prods) is Some(true));
-    in_each_field!(rt; divides(alloc, &[7], &[], 7, &mut prods) is Some(true));
-    in_each_field!(rt; divides(alloc, &[], &[], 0, &mut prods) is Some(true));
-    in_each_field!(rt; has_roots(alloc, &[0, 1, 1], &[0, 1], &mut prods) is Some(true));
-    in_each_field!(rt; has_roots(alloc, &[1, 0, 1], &[1], &mut prods) is Some(true));
-    in_each_field!(rt; has_roots(alloc, &[9, 1], &[9], &mut prods) is Some(true));
-    in_each_field!(rt; has_roots(alloc, &[4], &[], &mut prods) is Some(true));
+    in_each_field!(has_products(rt, alloc, &mut prods), P);
 }
 
 #[test]
-fn agrees_with_known_cases_in_each_field(rt: HostRuntime) {
-    known_in_each_field::<Brand>(&rt, rt.alloc(), Blank::new(1));
+fn multiplies_in_each_field(rt: HostRuntime) {
+    known_products::<Brand>(&rt, rt.alloc(), Blank::new(1));
 }
 
-fn known_in_some_field<P: Ledger>(rt: &impl Abort, alloc: Global, blank: Blank)
+/// The quotients by x + 1 that hold in each of the fields.
+fn has_quotients<F: Field, P: Ledger>(rt: &impl Abort, alloc: Global, prods: &mut Steps<P>) {
+    assert!(rt; divides::<F, P>(alloc, &[1, 0, 1], &[1, 1], 0, prods) == Some(true));
+    assert!(rt; divides::<F, P>(alloc, &[7], &[], 7, prods) == Some(true));
+    assert!(rt; divides::<F, P>(alloc, &[], &[], 0, prods) == Some(true));
+}
+
+fn known_quotients<P: Ledger>(rt: &impl Abort, alloc: Global, blank: Blank)
+    requires name { blank.name ≡ P.name }
+    requires parts { blank.parts ≡ P.parts }
+    requires some { 0 < P.parts }
+{
+    let mut prods = Steps::<P>::new(blank);
+    in_each_field!(has_quotients(rt, alloc, &mut prods), P);
+}
+
+#[test]
+fn divides_in_each_field(rt: HostRuntime) {
+    known_quotients::<Brand>(&rt, rt.alloc(), Blank::new(1));
+}
+
+/// The roots that are the same in each of the fields: two, one that counts twice, one, and none.
+fn has_few_roots<F: Field, P: Ledger>(rt: &impl Abort, alloc: Global, prods: &mut Steps<P>) {
+    assert!(rt; has_roots::<F, P>(alloc, &[0, 1, 1], &[0, 1], prods) == Some(true));
+    assert!(rt; has_roots::<F, P>(alloc, &[1, 0, 1], &[1], prods) == Some(true));
+    assert!(rt; has_roots::<F, P>(alloc, &[9, 1], &[9], prods) == Some(true));
+    assert!(rt; has_roots::<F, P>(alloc, &[4], &[], prods) == Some(true));
+}
+
+fn known_few_roots<P: Ledger>(rt: &impl Abort, alloc: Global, blank: Blank)
+    requires name { blank.name ≡ P.name }
+    requires parts { blank.parts ≡ P.parts }
+    requires some { 0 < P.parts }
+{
+    let mut prods = Steps::<P>::new(blank);
+    in_each_field!(has_few_roots(rt, alloc, &mut prods), P);
+}
+
+#[test]
+fn finds_roots_in_each_field(rt: HostRuntime) {
+    known_few_roots::<Brand>(&rt, rt.alloc(), Blank::new(1));
+}
+
+fn known_in_one_field<P: Ledger>(rt: &impl Abort, alloc: Global, blank: Blank)
     requires name { blank.name ≡ P.name }
     requires parts { blank.parts ≡ P.parts }
     requires some { 0 < P.parts }
@@ -154,8 +208,8 @@ fn known_in_some_field<P: Ledger>(rt: &impl Abort, alloc: Global, blank: Blank)
 }
 
 #[test]
-fn agrees_with_known_cases_in_some_field(rt: HostRuntime) {
-    known_in_some_field::<Brand>(&rt, rt.alloc(), Blank::new(1));
+fn agrees_in_one_field(rt: HostRuntime) {
+    known_in_one_field::<Brand>(&rt, rt.alloc(), Blank::new(1));
 }
 
 fn shape(alloc: Global, numbers: &[u8]) -> Option<(Option<usize>, u8, u8)> {

@@ -1,4 +1,4 @@
-use Rattle.std.proofs.Common.{◌≡◌, ◌+◌, ◌-◌, ◌*◌, ◌≤◌, ℕ, suc, length, get_or, sym, ap, subst, ◌∙◌, refl, arith}
+use Rattle.std.proofs.Common.{◌≡◌, ◌+◌, ◌-◌, ◌*◌, ℕ, suc, length, ap, subst, ◌∙◌, arith}
 use Rattle.algebra.specs.Lists.{coefficients}
 use Rattle.algebra.proofs.CoefficientLists.{coefficients_below}
 use Rattle.uni_poly.proofs.Filling.{read_at}
@@ -28,10 +28,10 @@ factors-preserved g c =
     record {
       so_far =
           more_product R p q i c.factors.target c.add_shifted.new.target old c.add_shifted.ensures.before
-            (λ k. c.add_shifted.ensures.from k ∙ ap (λ x. R.plus (coefficients R c.factors.target (i + k)) (R.times x (q k))) factor);
+          (λ k. c.add_shifted.ensures.from k ∙ ap (λ x. R.plus (coefficients R c.factors.target (i + k)) (R.times x (q k))) factor);
       products =
           let each : (length c.args.left.now - i) * length c.args.right.now ≡ (length c.args.left.now - c.factors.i) * length c.args.right.now + length c.args.right.now =
-            ap (λ n. n * length c.args.right.now) count ∙ omega arith in
+          ap (λ n. n * length c.args.right.now) count ∙ omega arith in
           omega (arith, c.add_shifted.ensures.products, c.factors.invariant.products);
     }
 

@@ -1,4 +1,3 @@
-use Rattle.std.proofs.Common.{◌≡◌, vec_len}
 use Rattle.uni_poly.proofs.Filling.{IsFilled}
 use Rattle.uni_poly.proofs.arithmetic.zeros.Given as goal
 

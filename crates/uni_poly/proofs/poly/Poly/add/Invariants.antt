@@ -1,4 +1,3 @@
-use Rattle.std.proofs.Common.{length}
 use Rattle.algebra.specs.Lists.{coefficients}
 use Rattle.uni_poly.proofs.Filling.{IsFilled}
 use Rattle.uni_poly.proofs.poly.Poly.add.Given as goal

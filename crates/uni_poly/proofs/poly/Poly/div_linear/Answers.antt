@@ -1,6 +1,5 @@
-use Rattle.std.proofs.Common.{◌≡◌, ◌-◌, ◌+◌, ◌≤◌, ℕ, suc, length, sym, ap, ap₂, subst, ◌∙◌, refl, arith}
+use Rattle.std.proofs.Common.{◌≡◌, ◌-◌, ℕ, suc, length, sym, ap, ap₂, subst, ◌∙◌, arith}
 use Rattle.std.proofs.lemmas.List.{length-set}
-use Rattle.algebra.specs.Lists.{coefficients}
 use Rattle.uni_poly.specs.Division.{IsDivision}
 use Rattle.uni_poly.proofs.Horner.{value_from, value_from-end, value_from-step, division_of}
 use Rattle.uni_poly.proofs.Filling.{read_at, written_at}
@@ -22,17 +21,17 @@ coefficients-preserved g c =
     let i : ℕ = c.coefficients.i - 1 in
     let next : c.coefficients.i ≡ suc i = omega arith in
     let rest : c.coefficients.rest ≡ value_from R c.as_slice-coefs.result.now c.args.a (suc i) =
-      c.coefficients.invariant.rest ∙ ap (value_from R c.as_slice-coefs.result.now c.args.a) next in
+    c.coefficients.invariant.rest ∙ ap (value_from R c.as_slice-coefs.result.now c.args.a) next in
     record {
       count = length-set c.coefficients.quotient.items i c.coefficients.rest ∙ c.coefficients.invariant.count;
       quotient =
           written_at R (λ k. value_from R c.as_slice-coefs.result.now c.args.a (suc k)) c.coefficients.quotient.items i c.coefficients.rest
-            (omega (arith, c.coefficients.invariant.count)) (λ k l. c.coefficients.invariant.quotient k (omega arith)) rest;
+          (omega (arith, c.coefficients.invariant.count)) (λ k l. c.coefficients.invariant.quotient k (omega arith)) rest;
       rest =
           c.add-rest.ensures
           ∙ ap₂ R.plus
-            (c.mul.ensures.value ∙ ap (λ v. R.times v c.args.a) rest)
-            (read_at R c.as_slice-coefs.result.now i c.index-coefs-i.result (omega arith) c.index-coefs-i.is)
+          (c.mul.ensures.value ∙ ap (λ v. R.times v c.args.a) rest)
+          (read_at R c.as_slice-coefs.result.now i c.index-coefs-i.result (omega arith) c.index-coefs-i.is)
           ∙ sym (value_from-step R c.as_slice-coefs.result.now c.args.a i);
       products = omega (arith, c.mul.ensures.ticks);
     }
@@ -42,7 +41,7 @@ returns-clause-value g c =
     let R = g.F.Field.ring in
     let start : c.coefficients.i ≡ 0 = omega arith in
     subst (λ xs. IsDivision R xs c.args.a c.over.result c.coefficients.rest) c.as_slice-coefs.ensures.value
-      (division_of R c.as_slice-coefs.result.now c.args.a c.coefficients.quotient.items c.over.result c.coefficients.rest
-        (λ k. c.coefficients.invariant.quotient k (omega arith))
-        (c.coefficients.invariant.rest ∙ ap (value_from R c.as_slice-coefs.result.now c.args.a) start)
-        c.over.ensures)
+    (division_of R c.as_slice-coefs.result.now c.args.a c.coefficients.quotient.items c.over.result c.coefficients.rest
+    (λ k. c.coefficients.invariant.quotient k (omega arith))
+    (c.coefficients.invariant.rest ∙ ap (value_from R c.as_slice-coefs.result.now c.args.a) start)
+    c.over.ensures)

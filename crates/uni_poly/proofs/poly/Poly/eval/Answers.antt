@@ -1,4 +1,4 @@
-use Rattle.std.proofs.Common.{◌≡◌, ◌-◌, ◌+◌, ℕ, suc, length, sym, ap, ap₂, ◌∙◌, refl, arith}
+use Rattle.std.proofs.Common.{◌≡◌, ◌-◌, ℕ, suc, length, sym, ap, ap₂, ◌∙◌, arith}
 use Rattle.algebra.specs.Series.{value}
 use Rattle.algebra.specs.Lists.{coefficients}
 use Rattle.uni_poly.proofs.Horner.{value_from, value_from-end, value_from-step, value_from-all}
@@ -20,8 +20,8 @@ coefficients-preserved g c =
       value =
           c.add-value.ensures
           ∙ ap₂ R.plus
-            (c.mul.ensures.value ∙ ap (λ v. R.times v c.args.at) (c.coefficients.invariant.value ∙ ap (value_from R c.as_slice-coefs.result.now c.args.at) next))
-            (read_at R c.as_slice-coefs.result.now i c.index-coefs-i.result (omega arith) c.index-coefs-i.is)
+          (c.mul.ensures.value ∙ ap (λ v. R.times v c.args.at) (c.coefficients.invariant.value ∙ ap (value_from R c.as_slice-coefs.result.now c.args.at) next))
+          (read_at R c.as_slice-coefs.result.now i c.index-coefs-i.result (omega arith) c.index-coefs-i.is)
           ∙ sym (value_from-step R c.as_slice-coefs.result.now c.args.at i);
       products = omega (arith, c.mul.ensures.ticks);
     }
