@@ -1,3 +1,4 @@
 pub mod Findings
 pub mod Report
 pub mod Scan
+pub mod Examples

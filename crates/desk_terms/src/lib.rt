@@ -2,5 +2,7 @@
 #![tactic(auto)]
 
 mod findings;
+mod laws;
 
 pub use findings::{Accused, AccusedList, Findings, Places};
+pub use laws::worked_examples;

@@ -1,0 +1,36 @@
+use Rattle.std.proofs.Common.{refl}
+use Rattle.std.specs.Fmt.{digits}
+use Rattle.gf_terms.specs.Arithmetic.{carryless, reduced, reduction, product, power}
+use Rattle.code_terms.specs.Symbols.{symbol_of}
+use Rattle.code_terms.specs.Words.{places_of, agreement_of}
+use Rattle.desk_terms.specs.Findings.{findings}
+use Rattle.desk_terms.specs.Report.{accused_text, report_text}
+use Rattle.desk_terms.proofs.laws.worked_examples.Goals as goal
+
+pub returns-clause-three_colluders : goal.returns-clause-three_colluders
+unfolding findings report_text accused_text agreement_of places_of symbol_of power product reduction reduced carryless digits
+returns-clause-three_colluders c = refl
+
+pub returns-clause-too_few : goal.returns-clause-too_few
+unfolding findings report_text accused_text agreement_of places_of symbol_of power product reduction reduced carryless digits
+returns-clause-too_few c = refl
+
+pub returns-clause-needed : goal.returns-clause-needed
+unfolding findings report_text accused_text agreement_of places_of symbol_of power product reduction reduced carryless digits
+returns-clause-needed c = refl
+
+pub returns-clause-nobody : goal.returns-clause-nobody
+unfolding findings report_text accused_text agreement_of places_of symbol_of power product reduction reduced carryless digits
+returns-clause-nobody c = refl
+
+pub returns-clause-met_exactly : goal.returns-clause-met_exactly
+unfolding findings report_text accused_text agreement_of places_of symbol_of power product reduction reduced carryless digits
+returns-clause-met_exactly c = refl
+
+pub returns-clause-not_enrolled : goal.returns-clause-not_enrolled
+unfolding findings report_text accused_text agreement_of places_of symbol_of power product reduction reduced carryless digits
+returns-clause-not_enrolled c = refl
+
+pub returns-clause-whole_copy : goal.returns-clause-whole_copy
+unfolding findings report_text accused_text agreement_of places_of symbol_of power product reduction reduced carryless digits
+returns-clause-whole_copy c = refl
