@@ -1,0 +1,23 @@
+-- Coalitions of licensees, and the words that their copies can have.
+-- Source: A. Silverberg, J. Staddon and J. L. Walker, Applications of list decoding to tracing traitors, IEEE Trans. Inform.
+-- Theory 49 (2003). That a coalition is a list of serials, in which one may stand twice, is this project's own.
+use Rattle.std.specs.Prelude.{◌≡◌, ℕ, ◌<◌, ◌≤◌, List, length, Option, Some, All, Contains}
+use Rattle.code_terms.specs.Symbols.{symbol_of}
+use Rattle.code_terms.specs.Words.{slot_at}
+use Rattle.desk_terms.specs.Findings.{findings}
+use Rattle.register_terms.specs.Enrolment.{Enrolment, message_of}
+
+-- at most c serials, each of an enrolled licensee
+pub record IsCoalition (e : Enrolment) (c : ℕ) (members : List ℕ) : Type 0 where
+  pub enrolled : All (λ j. j < length e.names) members
+  pub few : length members ≤ c
+
+-- each symbol of the word is the symbol that some member has at that place
+abbrev pub Explains : Enrolment → List ℕ → List (Option ℕ) → Type 0
+Explains e members word =
+    (i v : ℕ) → slot_at word i ≡ Some v → (j : ℕ) × Contains members j × (symbol_of e.bits e.dimension (message_of e j) i ≡ v)
+
+-- the desk accuses only members, and at least one of them
+pub record IsTraced (e : Enrolment) (word : List (Option ℕ)) (c : ℕ) (members : List ℕ) : Type 0 where
+  pub only : All (λ accused. Contains members accused.serial) (findings e word c).accused
+  pub some : 0 < length (findings e word c).accused

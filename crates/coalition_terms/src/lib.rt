@@ -1,0 +1,6 @@
+//! How far apart the codewords of a code are, and that a copy made by a coalition accuses members of it alone.
+#![tactic(auto)]
+
+mod promises;
+
+pub use promises::codewords_are_far_apart;
