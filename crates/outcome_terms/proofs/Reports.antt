@@ -166,3 +166,19 @@ reported {request} {old_blobs} answer s rose before after performed follows out 
 pub nothing_put : (rose : Type 0) (told : Option (List ℕ)) → TellsOut (Ok []) status.Ok rose told told
 nothing_put rose None = tt
 nothing_put rose (Some before) = record { whole = λ same. sym (append-nil before); fault = λ h. cc; memory = λ h. cc }
+
+pub record HasReport (blobs : Blobs) (register word : List ℕ) (c : ℕ) : Type 0 where
+  pub text : List ℕ
+  pub is_report : IsReport blobs register word c text
+
+-- where `accuse` is done there is a report, whether the output is told or not
+pub done_has_report : {request : Option Request} {old_blobs new_blobs : Option Blobs} {old new : Tally} (answer : Result (List ℕ) Refusal) (s : Status) (rose : Type 0)
+    → Performs request old_blobs new_blobs old new answer → Follows answer s rose
+    → (register word : List ℕ) (c : ℕ) → request ≡ Some (Accuse register word c) → s ≡ status.Ok → IfSome old_blobs (λ blobs. HasReport blobs register word c)
+done_has_report {request} {old_blobs} (Ok text) s rose performed follows register word c named ok =
+    over_told old_blobs performed.decided
+    (λ blobs d. record {
+      text = text;
+      is_report = accuse_report blobs register word c text (sym (ap (λ r. effect_text (outcome_of r blobs)) named ∙ text_put blobs (accuse_outcome blobs register word c)) ∙ d);
+    })
+done_has_report (Err e) s rose performed follows register word c named ok = absurd (done_is_no_refusal e s rose follows ok)

@@ -172,10 +172,10 @@ fn failures_outside(rt: HostRuntime) -> Result<(), Fail> {
     let got = call(alloc, &mut shelf, "accuse reg w 1")?;
     let wanted = format!(in alloc; "0: {PAIR}")?;
     assert_eq!(rt; got.as_str(), wanted.as_str(), "one call past the last");
-    let mut shelf = calls::shelf(alloc, twenty.as_str(), "5,5")?;
+    let mut shelf = calls::shelf(alloc, twenty.as_str(), "0,1,2,3,0,0,0,1,1,1")?;
     assert_eq!(rt;
-        first_put_fails(alloc, &mut shelf, "accuse reg w 1")?.as_str(),
-        "6: {\"accused\":[{\"name\":\"lic5\",\"places\":[0,"
+        first_put_fails(alloc, &mut shelf, "accuse reg w 3")?.as_str(),
+        "6: {\"accused\":[{\"name\":\"lic0\",\"places\":[0,4,5,6],\"serial\":0},{\"name\":\"lic1\",\"places\":[1,7,8,"
     );
     let mut shelf = calls::shelf(alloc, twenty.as_str(), "0,1,2,3,0,0,0,1,1,-")?;
     assert_eq!(rt;
