@@ -1,2 +1,4 @@
 pub mod Coefficients
+pub mod Coverings
 pub mod Distance
+pub mod Tracing

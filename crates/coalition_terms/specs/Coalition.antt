@@ -17,7 +17,7 @@ abbrev pub Explains : Enrolment → List ℕ → List (Option ℕ) → Type 0
 Explains e members word =
     (i v : ℕ) → slot_at word i ≡ Some v → (j : ℕ) × Contains members j × (symbol_of e.bits e.dimension (message_of e j) i ≡ v)
 
--- the desk accuses only members, and at least one of them
-pub record IsTraced (e : Enrolment) (word : List (Option ℕ)) (c : ℕ) (members : List ℕ) : Type 0 where
-  pub only : All (λ accused. Contains members accused.serial) (findings e word c).accused
+-- the desk accuses only members of the coalition, and at least one of them
+pub record IsTraced (e : Enrolment) (word : List (Option ℕ)) (c : ℕ) (coalition : List ℕ) : Type 0 where
+  pub members : All (λ accused. Contains coalition accused.serial) (findings e word c).accused
   pub some : 0 < length (findings e word c).accused
