@@ -8,3 +8,5 @@ pub mod Roots
 pub mod Fields
 pub mod Multiplicity
 pub mod CoefficientLists
+pub mod Elimination
+pub mod Kernel

@@ -3,3 +3,4 @@ pub mod Sums
 pub mod Series
 pub mod Roots
 pub mod Lists
+pub mod Systems

@@ -1,0 +1,5 @@
+pub mod Rows
+pub mod Solved
+pub mod Stage
+pub mod Products
+pub mod OnlyZero

@@ -1,0 +1,7 @@
+use Rattle.algebra.specs.Lists.{coefficients}
+use Rattle.algebra.specs.Systems.{IsZero}
+use Rattle.linear_solve.proofs.elimination.leading.Given as goal
+
+-- Zeros so far.
+abbrev pub invariant-columns : goal.invariant-columns
+invariant-columns g l = IsZero g.F.Field.ring l.column (coefficients g.F.Field.ring l.row)

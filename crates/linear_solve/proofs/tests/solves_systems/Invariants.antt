@@ -1,0 +1,7 @@
+use Rattle.linear_solve.proofs.tests.solves_systems.Given as goal
+
+abbrev pub ghosts-known_kernels : goal.ghosts-known_kernels
+ghosts-known_kernels g a = record { name = a.blank.name; parts = a.blank.parts }
+
+abbrev pub ghosts-known_kernels-2 : goal.ghosts-known_kernels-2
+ghosts-known_kernels-2 g a = record { name = a.blank.name; parts = a.blank.parts }
