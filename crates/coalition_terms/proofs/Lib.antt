@@ -1,4 +1,5 @@
 pub mod Coefficients
 pub mod Coverings
 pub mod Distance
+pub mod Examples
 pub mod Tracing

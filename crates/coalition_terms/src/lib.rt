@@ -3,4 +3,4 @@
 
 mod promises;
 
-pub use promises::{coalitions_are_traced, codewords_are_far_apart};
+pub use promises::{coalitions_are_traced, codewords_are_far_apart, worked_examples};

@@ -1,9 +1,10 @@
 //! The laws of codes and coalitions that a trace rests on, each as the contract of a function that does nothing.
 
-ghost use Rattle.std.specs.Prelude.{◌≢◌, ℕ, ◌*◌, ◌^◌, ◌<◌, ◌≤◌, List, Option, length};
+ghost use Rattle.std.specs.Prelude.{◌≡◌, ◌≢◌, ℕ, ◌*◌, ◌^◌, ◌<◌, ◌≤◌, List, [], ◌∷◌, Option, length};
 ghost use Rattle.coalition_terms.specs.Coalition.{Explains, IsCoalition, IsTraced};
 ghost use Rattle.coalition_terms.specs.Distance.{common_places};
-ghost use Rattle.code_terms.specs.Words.{readable};
+ghost use Rattle.code_terms.specs.Words.{readable, three_colluders};
+ghost use Rattle.desk_terms.specs.Examples.{first_licensees};
 ghost use Rattle.desk_terms.specs.Findings.{least_readable};
 ghost use Rattle.register_terms.specs.Enrolment.{Enrolment, IsValid};
 
@@ -16,4 +17,14 @@ pub fn codewords_are_far_apart()
 /// members of the coalition alone, and at least one of them.
 pub fn coalitions_are_traced()
     ensures { (e : Enrolment) (word : List (Option ℕ)) (c : ℕ) (members : List ℕ) → IsValid e → length word ≤ 2 ^ e.bits → 1 ≤ c → least_readable e c < readable word → IsCoalition e c members → Explains e members word → IsTraced e word c members }
+{}
+
+/// Three licensees and a word that were worked out by hand meet all that is asked of a coalition, and two messages of two
+/// coefficients have a symbol in common, so that neither law speaks of nothing.
+pub fn worked_examples()
+    ensures valid { IsValid (first_licensees 20) }
+    ensures coalition { IsCoalition (first_licensees 20) 3 (0 ∷ 1 ∷ 16 ∷ []) }
+    ensures explained { Explains (first_licensees 20) (0 ∷ 1 ∷ 16 ∷ []) three_colluders }
+    ensures enough { least_readable (first_licensees 20) 3 < readable three_colluders }
+    ensures in_common { common_places 4 2 0 16 16 ≡ 0 ∷ [] }
 {}
