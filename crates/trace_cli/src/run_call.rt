@@ -8,6 +8,7 @@ ghost use Rattle.outcome_terms.specs.Commands.{request_of, Make, Enrol, Accuse};
 ghost use Rattle.outcome_terms.specs.Outcome.{outcome};
 ghost use Rattle.outcome_terms.specs.Endings.{Ends, Performs, StatusCauses, TellsReport, outcome_status, is_free_status};
 ghost use Rattle.trace_cli.specs.Answers.{done_text};
+ghost use Rattle.trace_cli.specs.Coalitions.{TracesCoalitions};
 
 use crate::accuse::accuse;
 use crate::ending::{Done, put_done, put_refusal};
@@ -32,6 +33,10 @@ pub fn run<S: Shelf, O: Sink, P: Ledger, Q: Ledger>(
     // Where `accuse` is done, what it put out is the report of exactly the enrolled licensees who agree with at least r/c of the r readable places.
     ensures report { (reg word : List ℕ) (c : ℕ) → request_of (map string_bytes words.now) ≡ Some (Accuse reg word c) → result ≡ Status.Ok
         → TellsReport (S.holds shelf.old) reg word c (O.written out.old) (O.written out.new) }
+
+    // If a coalition of at most c licensees explains that word, everyone who is accused is a member, and somebody is accused.
+    ensures coalition { (reg word : List ℕ) (c : ℕ) → request_of (map string_bytes words.now) ≡ Some (Accuse reg word c) → result ≡ Status.Ok
+        → TracesCoalitions (S.holds shelf.old) reg word c }
 
     // The words are refused exactly where they are no command.
     ensures bad_words { result ≡ Status.BadWords → request_of (map string_bytes words.now) ≡ None }
