@@ -8,5 +8,3 @@ pub mod Roots
 pub mod Fields
 pub mod Multiplicity
 pub mod CoefficientLists
-pub mod Elimination
-pub mod Kernel

@@ -1,17 +1,16 @@
 -- What (x + a)^s divides has s zeros about a, and so there are no more roots, counted with multiplicity, than the degree.
-use Rattle.std.proofs.Common.{◌≡◌, ◌≢◌, inl, inr, ℕ, zero, suc, ◌+◌, ◌-◌, ◌<◌, ◌≤◌, refl, sym, ◌∙◌, ap, ap₂, subst, arith}
+use Rattle.std.proofs.Common.{◌≡◌, ◌≢◌, inl, inr, ℕ, zero, suc, ◌+◌, ◌<◌, ◌≤◌, refl, sym, ◌∙◌, ap, ap₂, subst, arith}
 use Rattle.std.proofs.Math.Numerals.{add-one}
 use Rattle.std.proofs.lemmas.Bool.{cases_lt}
 use mathlib.Core.Path.{fun_ext}
 use Rattle.algebra.specs.Ring.{Ring}
 use Rattle.algebra.specs.Series.{product, constant, linear, linear_power, value, IsBelow, IsFrom}
 use Rattle.algebra.specs.Roots.{HasRoot, total, AreDifferent}
-use Rattle.algebra.proofs.Laws.{ring}
 use Rattle.algebra.proofs.Series.{product_comm, product_below, product_zero, product_from, product_from_one, product_constant, series}
 use Rattle.algebra.proofs.Nested.{itself, nested_sum, nested_product, value_nested, below_more}
 use Rattle.algebra.proofs.Division.{quotient, quotient_below, divided, divides}
 use Rattle.algebra.proofs.Shift.{IsDomain, shifted, shifted_value, shifted_more, shifted_factor, constants}
-use Rattle.algebra.proofs.Roots.{power_first, power_more, Split, split, few_zeros, few_roots}
+use Rattle.algebra.proofs.Roots.{power_first, power_more, few_zeros}
 
 module _ {F : Type 0} (R : Ring F) where
   infixl 60 ◌⊕◌
@@ -135,20 +134,3 @@ module _ {F : Type 0} (R : Ring F) where
         quotient_below R d p a b_more,
         λ k. divided R d k p a b_more ∙ ap (λ t. product R (linear R a) (quotient R d p a) k ⊕ constant R (value R t p a) k) (sym more),
       )
-
-  -- s zeros at a are a factor (x + a)^s
-  pub root_from_zeros : IsDomain R → (s e : ℕ) (p : ℕ → F) (a : F) → s ≤ e → IsBelow R e p → IsFrom R s (shifted R e p a) → HasRoot R s p a
-  root_from_zeros dom s e p a l b z =
-      let off : Split R s (e - s) e p a = split R dom s (e - s) e p a (omega arith) b z in
-      record { rest = off.rest; bound = e - s; below = off.below; whole = off.whole }
-
-  -- polynomials with n coefficients each that have the same values at n different points are the same
-  pub same_values : IsDomain R → (n : ℕ) (points : ℕ → F) (p q : ℕ → F) → IsBelow R n p → IsBelow R n q → AreDifferent n points
-      → ((i : ℕ) → i < n → value R n p (points i) ≡ value R n q (points i)) → (k : ℕ) → p k ≡ q k
-  same_values dom n points p q bp bq apart same k =
-      let none : IsBelow R 0 (λ i. p i ⊕ q i) =
-      few_roots R dom n points (λ i. p i ⊕ q i) apart
-      (λ i l. ap₂ (λ (s t : F). s ⊕ t) (bp i l) (bq i l) ∙ R.plus_nil nil)
-      (λ i l. value_sum n p q (points i) ∙ ap (λ t. t ⊕ value R n q (points i)) (same i l) ∙ R.plus_self (value R n q (points i))) in
-      let e : p k ≡ (p k ⊕ q k) ⊕ q k = simp ring in
-      e ∙ ap (λ t. t ⊕ q k) (none k (omega arith)) ∙ R.plus_nil (q k)

@@ -3,4 +3,3 @@ pub mod Sums
 pub mod Series
 pub mod Roots
 pub mod Lists
-pub mod Systems

@@ -45,8 +45,6 @@ pub fn laws_of_roots<F>()
     ensures few { (ring : Ring F) → IsField ring → (d n : ℕ) (m : ℕ → ℕ) (points : ℕ → F) (p : ℕ → F) → IsBelow ring (d + 1) p → p d ≢ ring.nil → AreDifferent n points → ((i : ℕ) → i < n → HasRoot ring (m i) p (points i)) → total n m ≤ d }
     // a polynomial with n coefficients and n different roots is zero
     ensures zero { (ring : Ring F) → IsField ring → (n : ℕ) (points : ℕ → F) (p : ℕ → F) → IsBelow ring n p → AreDifferent n points → ((i : ℕ) → i < n → value ring n p (points i) ≡ ring.nil) → IsBelow ring 0 p }
-    // polynomials with n coefficients each that have the same values at n different points are the same
-    ensures same { (ring : Ring F) → IsField ring → (n : ℕ) (points : ℕ → F) (p q : ℕ → F) → IsBelow ring n p → IsBelow ring n q → AreDifferent n points → ((i : ℕ) → i < n → value ring n p (points i) ≡ value ring n q (points i)) → (k : ℕ) → p k ≡ q k }
 {}
 
 /// A polynomial has only one list of coefficients without zeros at its end.

@@ -3,3 +3,4 @@ pub mod Coverings
 pub mod Distance
 pub mod Examples
 pub mod Tracing
+pub mod SameValues

@@ -3,4 +3,6 @@
 
 mod promises;
 
-pub use promises::{coalitions_are_traced, codewords_are_far_apart, worked_examples};
+pub use promises::{
+    coalitions_are_traced, codewords_are_far_apart, values_tell_polynomials, worked_examples,
+};

@@ -1,6 +1,9 @@
 //! The laws of codes and coalitions that a trace rests on, each as the contract of a function that does nothing.
 
 ghost use Rattle.std.specs.Prelude.{◌≡◌, ◌≢◌, ℕ, ◌*◌, ◌^◌, ◌<◌, ◌≤◌, List, [], ◌∷◌, Option, length};
+ghost use Rattle.algebra.specs.Ring.{IsField, Ring};
+ghost use Rattle.algebra.specs.Roots.{AreDifferent};
+ghost use Rattle.algebra.specs.Series.{IsBelow, value};
 ghost use Rattle.coalition_terms.specs.Coalition.{Explains, IsCoalition, IsTraced};
 ghost use Rattle.coalition_terms.specs.Distance.{common_places};
 ghost use Rattle.code_terms.specs.Words.{readable, three_colluders};
@@ -17,6 +20,11 @@ pub fn codewords_are_far_apart()
 /// members of the coalition alone, and at least one of them.
 pub fn coalitions_are_traced()
     ensures { (e : Enrolment) (word : List (Option ℕ)) (c : ℕ) (members : List ℕ) → IsValid e → length word ≤ 2 ^ e.bits → 1 ≤ c → least_readable e c < readable word → IsCoalition e c members → Explains e members word → IsTraced e word c members }
+{}
+
+/// Two polynomials with n coefficients each that have the same values at n different points of a field are the same.
+pub fn values_tell_polynomials<F>()
+    ensures { (ring : Ring F) → IsField ring → (n : ℕ) (points : ℕ → F) (p q : ℕ → F) → IsBelow ring n p → IsBelow ring n q → AreDifferent n points → ((i : ℕ) → i < n → value ring n p (points i) ≡ value ring n q (points i)) → (k : ℕ) → p k ≡ q k }
 {}
 
 /// Three licensees and a word that were worked out by hand meet all that is asked of a coalition, and two messages of two

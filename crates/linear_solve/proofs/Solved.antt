@@ -5,10 +5,10 @@ use Rattle.std.proofs.lemmas.List.{get_or-map, get_or-set_same, get_or-set_other
 use Rattle.algebra.specs.Ring.{Ring}
 use Rattle.algebra.specs.Sums.{sum_below}
 use Rattle.algebra.specs.Lists.{coefficients}
-use Rattle.algebra.specs.Systems.{row_times}
+use Rattle.system_terms.specs.Systems.{row_times}
 use Rattle.algebra.proofs.Laws.{ring}
 use Rattle.algebra.proofs.Sums.{sum_next, sum_same}
-use Rattle.algebra.proofs.Elimination.{row_change}
+use Rattle.system_terms.proofs.Elimination.{row_change}
 use Rattle.linear_solve.specs.Tables.{entries}
 use Rattle.linear_solve.specs.Pivots.{ArePivots, rows_of, columns_of, inverses_of, settled}
 use Rattle.linear_solve.specs.declared.pivot.Pivot.{Pivot}

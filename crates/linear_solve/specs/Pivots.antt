@@ -3,7 +3,7 @@
 use Rattle.std.specs.Prelude.{◌≡◌, ℕ, ◌<◌, List, map, length, set, slice_index, slice_index_or}
 use Rattle.algebra.specs.Ring.{Ring}
 use Rattle.algebra.specs.Lists.{coefficients}
-use Rattle.algebra.specs.Systems.{Solves, row_times}
+use Rattle.system_terms.specs.Systems.{Solves, row_times}
 use Rattle.linear_solve.specs.Tables.{entries, HaveLength}
 use Rattle.linear_solve.specs.declared.pivot.Pivot.{Pivot}
 

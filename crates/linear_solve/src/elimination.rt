@@ -2,7 +2,7 @@
 
 ghost use Rattle.std.specs.Prelude.{◌≡◌, ◌≢◌, ◌+◌, ◌-◌, ◌*◌, ◌<◌, ◌≤◌, length, map, IfSome, IfOk, IsNone, slice_index_or, []};
 ghost use Rattle.algebra.specs.Lists.{coefficients};
-ghost use Rattle.algebra.specs.Systems.{IsZero};
+ghost use Rattle.system_terms.specs.Systems.{IsZero};
 ghost use Rattle.linear_solve.specs.Pivots.{ArePivots, HaveSameSolutions};
 ghost use Rattle.linear_solve.specs.Tables.{cleared, HaveLength};
 

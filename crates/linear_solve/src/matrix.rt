@@ -2,7 +2,7 @@
 
 ghost use Rattle.std.specs.Prelude.{◌≡◌, ◌↔◌, ◌+◌, ◌*◌, ◌<◌, ◌≤◌, length, map, replicate, set, IfOk, IfSome, IsNone, slice_index_or, []};
 ghost use Rattle.algebra.specs.Lists.{coefficients};
-ghost use Rattle.algebra.specs.Systems.{IsZero, OnlyZeroSolves, Solves};
+ghost use Rattle.system_terms.specs.Systems.{IsZero, OnlyZeroSolves, Solves};
 ghost use Rattle.linear_solve.specs.Tables.{entries};
 
 use crate::elimination::eliminate;

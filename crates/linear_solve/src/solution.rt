@@ -2,7 +2,7 @@
 
 ghost use Rattle.std.specs.Prelude.{◌≡◌, ◌≢◌, ◌↔◌, IsTrue, ℕ, ◌+◌, ◌*◌, ◌<◌, ◌≤◌, length, IfSome, IfOk, IsNone, slice_index, slice_index_or};
 ghost use Rattle.algebra.specs.Lists.{coefficients};
-ghost use Rattle.algebra.specs.Systems.{Solves, row_times};
+ghost use Rattle.system_terms.specs.Systems.{Solves, row_times};
 ghost use Rattle.linear_solve.specs.Pivots.{ArePivots, rows_of, columns_of, settled};
 ghost use Rattle.linear_solve.specs.Tables.{entries};
 

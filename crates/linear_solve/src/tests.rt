@@ -63,7 +63,9 @@ fn known_kernels<F: Field, P: Ledger>(rt: &impl Abort, alloc: Global, blank: Bla
     assert!(rt; has_kernel::<F, P>(alloc, 2, &[2, 1, 2, 1], &[1, 2], &mut prods) == Some(true));
     assert!(rt; has_kernel::<F, P>(alloc, 2, &[1, 0, 0, 1], &[], &mut prods) == Some(true));
     assert!(rt; has_kernel::<F, P>(alloc, 2, &[1, 1], &[1, 1], &mut prods) == Some(true));
-    assert!(rt; has_kernel::<F, P>(alloc, 3, &[1, 0, 1, 0, 1, 1], &[1, 1, 1], &mut prods) == Some(true));
+    assert!(rt;
+        has_kernel::<F, P>(alloc, 3, &[1, 0, 1, 0, 1, 1], &[1, 1, 1], &mut prods) == Some(true)
+    );
 }
 
 #[test]

@@ -1,6 +1,6 @@
 use Rattle.algebra.proofs.Fields.{domain}
 use Rattle.algebra.proofs.Roots.{few_roots}
-use Rattle.algebra.proofs.Multiplicity.{few, same_values}
+use Rattle.algebra.proofs.Multiplicity.{few}
 use Rattle.algebra.proofs.promises.laws_of_roots.Goals as goal
 
 pub returns-clause-few : goal.returns-clause-few
@@ -8,6 +8,3 @@ returns-clause-few g c = λ R field. few R (domain R field)
 
 pub returns-clause-zero : goal.returns-clause-zero
 returns-clause-zero g c = λ R field n points p b apart z. few_roots R (domain R field) n points p apart b z
-
-pub returns-clause-same : goal.returns-clause-same
-returns-clause-same g c = λ R field. same_values R (domain R field)

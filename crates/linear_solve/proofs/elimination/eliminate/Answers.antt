@@ -1,7 +1,7 @@
 use Rattle.std.proofs.Common.{◌≡◌, ◌+◌, ◌-◌, ◌*◌, ◌<◌, ◌≤◌, [], ◌∷◌, ◌++◌, length, map, take, drop, refl, ap, ap₂, subst, sym, ◌∙◌, arith}
 use Rattle.std.proofs.lemmas.List.{map-append}
 use Rattle.algebra.specs.Lists.{coefficients}
-use Rattle.algebra.specs.Systems.{IsZero}
+use Rattle.system_terms.specs.Systems.{IsZero}
 use Rattle.linear_solve.specs.Tables.{cleared, HaveLength}
 use Rattle.linear_solve.specs.declared.pivot.Pivot.{Pivot}
 use Rattle.linear_solve.proofs.Products.{one_more, all_steps, eliminated}

@@ -1,5 +1,5 @@
 use Rattle.algebra.specs.Lists.{coefficients}
-use Rattle.algebra.specs.Systems.{IsZero}
+use Rattle.system_terms.specs.Systems.{IsZero}
 use Rattle.linear_solve.proofs.elimination.leading.Given as goal
 
 -- Zeros so far.

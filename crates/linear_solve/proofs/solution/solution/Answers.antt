@@ -1,7 +1,7 @@
 use Rattle.std.proofs.Common.{◌≡◌, ◌≢◌, ◌+◌, ◌-◌, ◌<◌, ℕ, length, ap, sym, ◌∙◌, arith}
 use Rattle.std.proofs.lemmas.List.{length-map, length-set, get_or-set_other}
 use Rattle.algebra.specs.Lists.{coefficients}
-use Rattle.algebra.specs.Systems.{row_times}
+use Rattle.system_terms.specs.Systems.{row_times}
 use Rattle.linear_solve.specs.Tables.{entries}
 use Rattle.linear_solve.specs.Pivots.{rows_of}
 use Rattle.linear_solve.proofs.Products.{one_more}

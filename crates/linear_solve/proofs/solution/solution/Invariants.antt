@@ -1,6 +1,6 @@
 use Rattle.std.proofs.Common.{◌≡◌, ℕ, ◌+◌, ◌-◌, ◌*◌, ◌<◌, ◌≤◌, length}
 use Rattle.algebra.specs.Lists.{coefficients}
-use Rattle.algebra.specs.Systems.{row_times}
+use Rattle.system_terms.specs.Systems.{row_times}
 use Rattle.linear_solve.specs.Tables.{entries}
 use Rattle.linear_solve.specs.Pivots.{rows_of}
 use Rattle.linear_solve.proofs.solution.solution.Given as goal

@@ -1,8 +1,8 @@
 use Rattle.std.proofs.Common.{◌≡◌, ◌≢◌, ◌+◌, ◌-◌, ◌*◌, ◌<◌, ◌≤◌, ℕ, rules, length, get_or, map, refl, ◌∙◌, sym, ap, subst, arith}
 use Rattle.std.proofs.lemmas.List.{length-map}
 use Rattle.algebra.specs.Lists.{coefficients}
-use Rattle.algebra.specs.Systems.{OnlyZeroSolves, Solves}
-use Rattle.algebra.proofs.Kernel.{kernel}
+use Rattle.system_terms.specs.Systems.{OnlyZeroSolves, Solves}
+use Rattle.system_terms.proofs.Kernel.{kernel}
 use Rattle.linear_solve.specs.Tables.{entries}
 use Rattle.linear_solve.specs.Pivots.{rows_of, columns_of}
 use Rattle.linear_solve.proofs.Products.{within, within_alone}

@@ -3,10 +3,10 @@ use Rattle.std.proofs.Common.{◌≡◌, ◌≢◌, ◌⊎◌, inl, inr, ℕ, ze
 use Rattle.std.proofs.lemmas.Bool.Decides.{eqb_tells}
 use Rattle.algebra.specs.Ring.{Ring, IsField}
 use Rattle.algebra.specs.Sums.{sum_below}
-use Rattle.algebra.specs.Systems.{row_times, Solves}
+use Rattle.system_terms.specs.Systems.{row_times, Solves}
 use Rattle.algebra.proofs.Laws.{ring}
 use Rattle.algebra.proofs.Sums.{sum_next, sum_same, sum_nil}
-use Rattle.algebra.proofs.Elimination.{row_sum}
+use Rattle.system_terms.proofs.Elimination.{row_sum}
 
 -- a vector that solves the m rows and is not zero at a place
 pub record Kernel {F : Type 0} (R : Ring F) (m n : ℕ) (a : ℕ → ℕ → F) : Type 0 where
