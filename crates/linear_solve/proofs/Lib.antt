@@ -3,3 +3,5 @@ pub mod Solved
 pub mod Stage
 pub mod Products
 pub mod OnlyZero
+pub mod Rank
+pub mod Written

@@ -2,9 +2,9 @@
 
 ghost use Rattle.std.specs.Prelude.{◌≡◌, ◌≢◌, ◌+◌, ◌-◌, ◌*◌, ◌<◌, ◌≤◌, length, map, IfSome, IfOk, IsNone, slice_index_or, []};
 ghost use Rattle.algebra.specs.Lists.{coefficients};
-ghost use Rattle.system_terms.specs.Systems.{IsZero};
+ghost use Rattle.system_terms.specs.Systems.{IsZero, IsRank};
 ghost use Rattle.linear_solve.specs.Pivots.{ArePivots, HaveSameSolutions};
-ghost use Rattle.linear_solve.specs.Tables.{cleared, HaveLength};
+ghost use Rattle.linear_solve.specs.Tables.{cleared, entries, HaveLength};
 
 use crate::pivot::Pivot;
 use gf2m::{Field, Ledger, Steps};
@@ -21,6 +21,7 @@ pub(crate) fn eliminate<F: Field, P: Ledger>(
     requires { HaveLength columns (map (λ row. row.items) rows.items) }
     ensures pivots { IfOk result (λ pivots. ArePivots F.ring columns pivots.items) }
     ensures solutions { IfOk result (λ pivots. HaveSameSolutions F.ring columns (map (λ row. row.items) rows.items) [] pivots.items) }
+    ensures rank { IfOk result (λ pivots. IsRank F.ring (length (map (λ row. row.items) rows.items)) columns (entries F.ring (map (λ row. row.items) rows.items)) (length pivots.items)) }
     ensures count { IfOk result (λ pivots. length pivots.items ≤ length rows.items) }
     ensures products { prods.new ≤ prods.old + length rows.items * (1 + (length rows.items - 1) * (1 + columns)) }
 {

@@ -2,7 +2,7 @@
 
 ghost use Rattle.std.specs.Prelude.{◌≡◌, ◌↔◌, ◌+◌, ◌*◌, ◌<◌, ◌≤◌, length, map, replicate, set, IfOk, IfSome, IsNone, slice_index_or, []};
 ghost use Rattle.algebra.specs.Lists.{coefficients};
-ghost use Rattle.system_terms.specs.Systems.{IsZero, OnlyZeroSolves, Solves};
+ghost use Rattle.system_terms.specs.Systems.{IsRank, IsZero, OnlyZeroSolves, Solves};
 ghost use Rattle.linear_solve.specs.Tables.{entries};
 
 use crate::elimination::eliminate;
@@ -90,6 +90,20 @@ impl<F: Field> Matrix<F> {
         };
         let vector = solution(alloc, &pivots, columns, free, prods)?;
         Ok(Some(Items::over(vector)))
+    }
+
+    /// The rank: how many rows the longest list of independent rows has. The only error is want of memory.
+    pub fn rank<P: Ledger>(self, prods: &mut Steps<P>) -> Result<usize, Memory>
+        ensures rank { IfOk result (λ rank. IsRank F.ring (length self.rows) self.columns (entries F.ring self.rows) rank) }
+        ensures products { prods.new ≤ prods.old + 3 * (length self.rows * length self.rows) * self.columns }
+    {
+        let Matrix {
+            alloc,
+            columns,
+            rows,
+        } = self;
+        let pivots = eliminate(alloc, rows, columns, prods)?;
+        Ok(pivots.len())
     }
 }
 

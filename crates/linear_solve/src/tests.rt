@@ -52,6 +52,16 @@ fn has_kernel<F: Field, P: Ledger>(
     }
 }
 
+// The rank of the matrix with these entries.
+fn rank_of<F: Field, P: Ledger>(
+    alloc: Global,
+    columns: usize,
+    entries: &[u8],
+    prods: &mut Steps<P>,
+) -> Option<usize> {
+    matrix_of::<F>(alloc, columns, entries)?.rank(prods).ok()
+}
+
 fn known_kernels<F: Field, P: Ledger>(rt: &impl Abort, alloc: Global, blank: Blank)
     requires name { blank.name ≡ P.name }
     requires parts { blank.parts ≡ P.parts }
@@ -68,8 +78,25 @@ fn known_kernels<F: Field, P: Ledger>(rt: &impl Abort, alloc: Global, blank: Bla
     );
 }
 
+fn known_ranks<F: Field, P: Ledger>(rt: &impl Abort, alloc: Global, blank: Blank)
+    requires name { blank.name ≡ P.name }
+    requires parts { blank.parts ≡ P.parts }
+    requires some { 0 < P.parts }
+{
+    let mut prods = Steps::<P>::new(blank);
+    assert!(rt; rank_of::<F, P>(alloc, 2, &[0, 0, 1, 0], &mut prods) == Some(1));
+    assert!(rt; rank_of::<F, P>(alloc, 1, &[0, 0], &mut prods) == Some(0));
+    assert!(rt; rank_of::<F, P>(alloc, 2, &[2, 1, 2, 1], &mut prods) == Some(1));
+    assert!(rt; rank_of::<F, P>(alloc, 2, &[1, 0, 0, 1], &mut prods) == Some(2));
+    assert!(rt; rank_of::<F, P>(alloc, 2, &[1, 1], &mut prods) == Some(1));
+    assert!(rt; rank_of::<F, P>(alloc, 3, &[1, 0, 1, 0, 1, 1], &mut prods) == Some(2));
+    assert!(rt; rank_of::<F, P>(alloc, 3, &[1, 0, 1, 0, 1, 1, 1, 1, 0], &mut prods) == Some(2));
+}
+
 #[test]
 fn solves_systems(rt: HostRuntime) {
     known_kernels::<Gf<4>, Brand>(&rt, rt.alloc(), Blank::new(1));
     known_kernels::<Gf<8>, Brand>(&rt, rt.alloc(), Blank::new(1));
+    known_ranks::<Gf<4>, Brand>(&rt, rt.alloc(), Blank::new(1));
+    known_ranks::<Gf<8>, Brand>(&rt, rt.alloc(), Blank::new(1));
 }

@@ -5,3 +5,9 @@ ghosts-known_kernels g a = record { name = a.blank.name; parts = a.blank.parts }
 
 abbrev pub ghosts-known_kernels-2 : goal.ghosts-known_kernels-2
 ghosts-known_kernels-2 g a = record { name = a.blank.name; parts = a.blank.parts }
+
+abbrev pub ghosts-known_ranks : goal.ghosts-known_ranks
+ghosts-known_ranks g a = record { name = a.blank.name; parts = a.blank.parts }
+
+abbrev pub ghosts-known_ranks-2 : goal.ghosts-known_ranks-2
+ghosts-known_ranks-2 g a = record { name = a.blank.name; parts = a.blank.parts }
