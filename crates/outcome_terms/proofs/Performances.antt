@@ -12,7 +12,7 @@ use Rattle.outcome_terms.specs.declared.refusal.Refusal.{Refusal}
 use Rattle.outcome_terms.specs.declared.refusal.Refusal.TheVariants as refusal
 use Rattle.outcome_terms.specs.Commands.{Request, Accuse}
 use Rattle.outcome_terms.specs.Outcome.{outcome_of, accuse_outcome, puts_out, writes_to}
-use Rattle.outcome_terms.specs.Endings.{Answers, CommandCauses, Performs, OnlyWrites, OnlyInserts, written_blob, effect_text, effect_blobs, keeps_blobs, refused_as, is_bad_words, is_free}
+use Rattle.outcome_terms.specs.Endings.{Answers, CommandCauses, NamesFailure, Performs, OnlyWrites, OnlyInserts, written_blob, effect_text, effect_blobs, keeps_blobs, refused_as, is_bad_words, is_free}
 use Rattle.outcome_terms.proofs.Consequences.{over_told}
 
 never_bad_words : (answer : Result (List ℕ) Refusal) → refused_as is_bad_words (result_err answer) ≡ false → answer ≡ Err refusal.BadWords → ⊥
@@ -32,12 +32,13 @@ put_done (Some blobs) new (Err e) wanted same d fine = cc
 
 pub accuse_performs : (register word : List ℕ) (c : ℕ) (old_blobs new_blobs : Option Blobs) (old new : Tally) (answer : Result (List ℕ) Refusal)
     → IfSome old_blobs (λ blobs. Answers (λ text. text) answer (accuse_outcome blobs register word c)) → new_blobs ≡ old_blobs → CommandCauses old new (result_err answer)
-    → refused_as is_bad_words (result_err answer) ≡ false → Performs (Some (Accuse register word c)) old_blobs new_blobs old new answer
-accuse_performs register word c old_blobs new_blobs old new answer decided same causes known = record {
+    → refused_as is_bad_words (result_err answer) ≡ false → NamesFailure (Some (Accuse register word c)) (result_err answer) → Performs (Some (Accuse register word c)) old_blobs new_blobs old new answer
+accuse_performs register word c old_blobs new_blobs old new answer decided same causes known names = record {
   no_command = (λ is. absurd (never_bad_words answer known is), λ none. cc);
   decided = over_told old_blobs decided (λ blobs d. subst (Answers (λ text. text) answer) (sym (text_put blobs (accuse_outcome blobs register word c))) d);
   blobs = record { others = same; kept = λ _. same; done = put_done old_blobs new_blobs answer (λ blobs. accuse_outcome blobs register word c) same decided };
   causes = causes;
+  names = names;
 }
 
 -- ---- a command that writes a blob
@@ -57,22 +58,24 @@ module _ (request : Request) (out : List ℕ) (wanted : Blobs → Result (List �
 
   -- the text is refused, and nothing is written
   pub refused_performs : (told : Option Blobs) (old new : Tally) (e : Refusal) → IfSome told (λ blobs. is_free e ≡ false → wanted blobs ≡ Err e) → CommandCauses old new (Some e) → is_bad_words e ≡ false
-      → Performs (Some request) told told old new (Err e)
-  refused_performs told old new e decided causes known = record {
+      → NamesFailure (Some request) (Some e) → Performs (Some request) told told old new (Err e)
+  refused_performs told old new e decided causes known failure = record {
     no_command = (λ same. absurd (never_bad_words (Err e) known same), λ none. cc);
     decided = refused_told told e decided;
     blobs = record { others = subst (λ o. OnlyWrites o told told) (sym names) (same_but out told); kept = λ _. refl; done = λ fine. cc };
     causes = causes;
+    names = failure;
   }
 
   -- the write fails, or there is no memory for it
   pub unwritten_performs : (told_old told_new : Option Blobs) (old new : Tally) (e : Refusal) → OnlyWrites (Some out) told_old told_new → keeps_blobs e ≡ false → is_free e ≡ true → CommandCauses old new (Some e) → is_bad_words e ≡ false
-      → Performs (Some request) told_old told_new old new (Err e)
-  unwritten_performs told_old told_new old new e only lost free causes known = record {
+      → NamesFailure (Some request) (Some e) → Performs (Some request) told_old told_new old new (Err e)
+  unwritten_performs told_old told_new old new e only lost free causes known failure = record {
     no_command = (λ same. absurd (never_bad_words (Err e) known same), λ none. cc);
     decided = go told_old;
     blobs = record { others = subst (λ o. OnlyWrites o told_old told_new) (sym names) only; kept = λ h. (let no_more : true ≡ false = sym h ∙ lost in cc); done = λ fine. cc };
     causes = causes;
+    names = failure;
   }
     where
       go : (told : Option Blobs) → IfSome told (λ blobs. is_free e ≡ false → effect_text (outcome_of (Some request) blobs) ≡ Err e)
@@ -103,6 +106,7 @@ module _ (request : Request) (out : List ℕ) (wanted : Blobs → Result (List �
     decided = written_text told_old told_new text h d;
     blobs = record { others = subst (λ o. OnlyWrites o told_old told_new) (sym names) (written_told told_old told_new text h); kept = λ more. cc; done = λ fine. written_blobs told_old told_new text h d };
     causes = causes;
+    names = record { read = λ h. cc; written = λ h. cc };
   }
 
 -- ---- words that are no command
@@ -113,6 +117,7 @@ no_performs told old = record {
   decided = go told;
   blobs = record { others = refl; kept = λ more. refl; done = λ fine. cc };
   causes = record { faults_stay = omega arith; misses_stay = omega arith; writes_stay = omega arith; fault = λ h. cc; blamed = λ h. cc; missing = λ h. cc; write_fault = λ h. cc };
+  names = record { read = λ h. cc; written = λ h. cc };
 }
   where
     go : (t : Option Blobs) → IfSome t (λ blobs. Answers (λ text. text) (Err refusal.BadWords) (effect_text (outcome_of None blobs)))

@@ -1,6 +1,6 @@
 -- How a call of the program ends: what it answered, what that has to do with the outcome and with what went wrong outside,
 -- and what then stands in the output. This project's own.
-use Rattle.std.specs.Prelude.{◌≡◌, ◌≢◌, ◌↔◌, ℕ, ◌<◌, ◌≤◌, List, [], ◌++◌, Bool, true, false, Option, Some, None, Result, Ok, Err, IfSome, is_some, codes, ⊤, ◌⊎◌}
+use Rattle.std.specs.Prelude.{◌≡◌, ◌≢◌, ◌↔◌, ℕ, ◌<◌, ◌≤◌, List, [], ◌∷◌, ◌++◌, Contains, Bool, true, false, Option, Some, None, Result, Ok, Err, IfSome, is_some, codes, ⊤, ◌⊎◌}
 use Rattle.std.specs.Result.{result_err}
 use Rattle.std.specs.FinMap.{insert}
 use Rattle.code_terms.specs.Words.{readable}
@@ -64,6 +64,11 @@ pub record IsInner (e : Refusal) : Type 0 where
   pub no_missing : is_missing e ≡ false
   pub no_write_fault : is_write_fault e ≡ false
 
+-- the name of the blob that was not written
+abbrev pub unwritten_blob : Refusal → List ℕ
+unwritten_blob (refusal.WriteFault name) = name
+unwritten_blob e = []
+
 -- whether there is a refusal that passes the test
 abbrev pub refused_as : (Refusal → Bool) → Option Refusal → Bool
 refused_as test None = false
@@ -73,6 +78,11 @@ refused_as test (Some e) = test e
 abbrev pub blames : Option Refusal → List ℕ
 blames None = []
 blames (Some e) = blamed_blob e
+
+-- the name that a refusal says was not written, if there is one
+abbrev pub fails_to_write : Option Refusal → List ℕ
+fails_to_write None = []
+fails_to_write (Some e) = unwritten_blob e
 
 -- What the counts of the store say of a command that was refused with `why`, or was not: each failure outside comes only where its
 -- count rose in the call.
@@ -141,6 +151,18 @@ written_blob (Some (Enrol register name out)) = Some out
 written_blob (Some (Accuse register word c)) = None
 written_blob None = None
 
+-- the names of the blobs that a command reads
+abbrev pub read_blobs : Option Request → List (List ℕ)
+read_blobs None = []
+read_blobs (Some (Make m k a b out)) = []
+read_blobs (Some (Enrol register name out)) = register ∷ []
+read_blobs (Some (Accuse register word c)) = register ∷ word ∷ []
+
+-- a failed read is of a blob that the command reads, and a failed write of the one that it writes
+pub record NamesFailure (request : Option Request) (why : Option Refusal) : Type 0 where
+  pub read : refused_as is_read_fault why ≡ true → Contains (read_blobs request) (blames why)
+  pub written : refused_as is_write_fault why ≡ true → written_blob request ≡ Some (fails_to_write why)
+
 -- no other blob has changed; where the blobs are told before, they are told after
 abbrev pub OnlyWrites : Option (List ℕ) → Option Blobs → Option Blobs → Type 0
 OnlyWrites None old new = new ≡ old
@@ -189,6 +211,7 @@ pub record Performs (request : Option Request) (old_blobs new_blobs : Option Blo
   pub decided : IfSome old_blobs (λ blobs. Answers (λ text. text) answer (effect_text (outcome_of request blobs)))
   pub blobs : BlobsAfter request (result_err answer) old_blobs new_blobs
   pub causes : CommandCauses old new (result_err answer)
+  pub names : NamesFailure request (result_err answer)
 
 -- Everything that is promised of a call, over the answer that the command had. `sink_rose` says that a fault of the output was counted.
 pub record Ends (words : List (List ℕ)) (old_blobs new_blobs : Option Blobs) (old new : Tally) (s : Status) (sink_rose : Type 0) (before after : Option (List ℕ)) : Type 0 where

@@ -1,5 +1,5 @@
 -- A report that is done traces coalitions.
-use Rattle.std.proofs.Common.{◌≡◌, ℕ, ◌<◌, ◌≤◌, ◌^◌, List, Bool, true, Option, Some, None, Result, Ok, Err, length, nat_le, refl, sym, ap, subst, ◌∙◌, arith}
+use Rattle.std.proofs.Common.{◌≡◌, ℕ, ◌<◌, ◌≤◌, List, true, Option, Some, None, Result, Ok, ap, subst, arith}
 use Rattle.std.specs.Option.{IfSome}
 use Rattle.std.proofs.lemmas.Bool.Decides.{nat_tests}
 use Rattle.shelf_terms.specs.Blobs.{Blobs, blob_at}
@@ -7,19 +7,18 @@ use Rattle.shelf_terms.specs.Counts.{Tally}
 use Rattle.code_terms.specs.Words.{readable}
 use Rattle.code_terms.specs.WordText.{word_of}
 use Rattle.code_terms.proofs.WordLength.{word_of-length}
-use Rattle.register_terms.specs.Enrolment.{Enrolment, IsValid}
+use Rattle.register_terms.specs.Enrolment.{Enrolment}
 use Rattle.register_terms.specs.RegisterText.{register_of}
 use Rattle.register_terms.proofs.Read.{read_was_written}
 use Rattle.desk_terms.specs.Findings.{is_allowed_bound, least_readable}
-use Rattle.coalition_terms.specs.Coalition.{IsCoalition, Explains, IsTraced}
 use Rattle.coalition_terms.proofs.Tracing.{traced}
 use Rattle.outcome_terms.specs.declared.status.Status.{Status}
 use Rattle.outcome_terms.specs.declared.status.Status.TheVariants as status
 use Rattle.outcome_terms.specs.declared.refusal.Refusal.{Refusal}
 use Rattle.outcome_terms.specs.Commands.{Request, Accuse}
-use Rattle.outcome_terms.specs.Endings.{Performs, Follows, IsReport}
+use Rattle.outcome_terms.specs.Endings.{Performs, Follows}
 use Rattle.outcome_terms.proofs.Reports.{HasReport, done_has_report}
-use Rattle.trace_cli.specs.Coalitions.{HoldsRegister, HoldsWord, TracesCoalitions}
+use Rattle.trace_cli.specs.Coalitions.{TracesCoalitions}
 
 -- what two readings of one blob give is the same
 one_reading : {A F : Type 0} (read : List ℕ → Result A F) (found : Option (List ℕ)) (bytes other : List ℕ) (x y : A) → found ≡ Some bytes → found ≡ Some other → read bytes ≡ Ok x → read other ≡ Ok y → x ≡ y

@@ -1,11 +1,12 @@
 //! The command that reports whose codewords agree with a word.
 
-ghost use Rattle.std.specs.Prelude.{◌≡◌, ◌^◌, ◌≤◌, length, false, IfOk, IfErr, IfSome, IsTrue};
+ghost use Rattle.std.specs.Prelude.{◌≡◌, ◌^◌, ◌≤◌, length, false, Some, IfOk, IfErr, IfSome, IsTrue};
 ghost use Rattle.std.specs.Result.{result_err};
 ghost use Rattle.text_terms.specs.Names.{is_name};
 ghost use Rattle.shelf_terms.specs.Counts.{tally};
+ghost use Rattle.outcome_terms.specs.Commands.{Accuse};
 ghost use Rattle.outcome_terms.specs.Outcome.{accuse_outcome, allowed_bound, report_of};
-ghost use Rattle.outcome_terms.specs.Endings.{Answers, CommandCauses, IsInner, refused_as, is_bad_words};
+ghost use Rattle.outcome_terms.specs.Endings.{Answers, CommandCauses, IsInner, NamesFailure, refused_as, is_bad_words};
 ghost use Rattle.desk_terms.specs.Findings.{findings};
 
 use crate::reading::{read_register, read_word};
@@ -48,6 +49,7 @@ pub fn accuse<S: Shelf, P: Ledger, Q: Ledger>(
     requires word { IsTrue (is_name word.now) }
     ensures report { IfSome (S.holds shelf.old) (λ blobs. Answers (λ text. text.items) result (accuse_outcome blobs reg.now word.now c)) }
     ensures command { refused_as is_bad_words (result_err result) ≡ false }
+    ensures names { NamesFailure (Some (Accuse reg.now word.now c)) (result_err result) }
     ensures same { S.holds shelf.new ≡ S.holds shelf.old }
     ensures causes { CommandCauses (tally S.faults S.misses S.write_faults S.blamed shelf.old) (tally S.faults S.misses S.write_faults S.blamed shelf.new) (result_err result) }
 {

@@ -8,6 +8,7 @@ ghost use Rattle.code_terms.specs.WordText.{word_of};
 ghost use Rattle.register_terms.specs.RegisterText.{register_of};
 ghost use Rattle.outcome_terms.specs.Outcome.{blob_limit, read_blob, read_register, read_word, register_or_refusal, word_or_refusal};
 ghost use Rattle.outcome_terms.specs.Endings.{Answers, CommandCauses, IsInner, refused_as, is_bad_words};
+ghost use Rattle.trace_cli.specs.Failures.{ReadsOne};
 
 use lic_register::{Register, RegisterReadError};
 use outcome_terms::Refusal;
@@ -24,6 +25,7 @@ fn bytes_of<S: Shelf>(alloc: Global, shelf: &mut S, name: &str) -> Result<Vec<u8
     ensures bytes { IfSome (S.holds shelf.old) (λ blobs. Answers (λ bytes. bytes.items) result (read_blob blobs name.now)) }
     ensures short { IfOk result (λ bytes. length bytes.items ≤ blob_limit) }
     ensures command { refused_as is_bad_words (result_err result) ≡ false }
+    ensures names { ReadsOne name.now (result_err result) }
     ensures same { S.holds shelf.new ≡ S.holds shelf.old }
     ensures causes { CommandCauses (tally S.faults S.misses S.write_faults S.blamed shelf.old) (tally S.faults S.misses S.write_faults S.blamed shelf.new) (result_err result) }
 {
@@ -46,6 +48,7 @@ pub fn read_register<S: Shelf>(
     requires { IsTrue (is_name name.now) }
     ensures register { IfSome (S.holds shelf.old) (λ blobs. Answers (λ register. register) result (read_register blobs name.now)) }
     ensures command { refused_as is_bad_words (result_err result) ≡ false }
+    ensures names { ReadsOne name.now (result_err result) }
     ensures same { S.holds shelf.new ≡ S.holds shelf.old }
     ensures causes { CommandCauses (tally S.faults S.misses S.write_faults S.blamed shelf.old) (tally S.faults S.misses S.write_faults S.blamed shelf.new) (result_err result) }
 {
@@ -79,6 +82,7 @@ pub fn read_word<S: Shelf>(
     ensures least { IfOk result (λ word. 1 ≤ length word) }
     ensures most { IfOk result (λ word. length word ≤ 2 ^ m) }
     ensures command { refused_as is_bad_words (result_err result) ≡ false }
+    ensures names { ReadsOne name.now (result_err result) }
     ensures same { S.holds shelf.new ≡ S.holds shelf.old }
     ensures causes { CommandCauses (tally S.faults S.misses S.write_faults S.blamed shelf.old) (tally S.faults S.misses S.write_faults S.blamed shelf.new) (result_err result) }
 {

@@ -5,7 +5,8 @@ ghost use Rattle.std.specs.Result.{result_err};
 ghost use Rattle.text_terms.specs.Names.{is_name};
 ghost use Rattle.shelf_terms.specs.Counts.{tally};
 ghost use Rattle.outcome_terms.specs.Outcome.{make_outcome, enrol_outcome, enrolled};
-ghost use Rattle.outcome_terms.specs.Endings.{Answers, CommandCauses, IsInner, OnlyInserts, OnlyWrites, refused_as, is_bad_words, keeps_blobs, is_free};
+ghost use Rattle.outcome_terms.specs.Endings.{Answers, CommandCauses, IsInner, OnlyInserts, OnlyWrites, refused_as, is_bad_words, is_read_fault, is_write_fault, unwritten_blob, keeps_blobs, is_free};
+ghost use Rattle.trace_cli.specs.Failures.{ReadsOne};
 ghost use Rattle.register_terms.specs.RegisterText.{register_text};
 
 use crate::reading::read_register;
@@ -60,6 +61,7 @@ pub fn enrolled_text_of<S: Shelf, Q: Ledger>(
     requires reg { IsTrue (is_name reg.now) }
     ensures text { IfSome (S.holds shelf.old) (λ blobs. Answers (λ text. text.items) result (enrol_outcome blobs reg.now name.now out.now)) }
     ensures command { refused_as is_bad_words (result_err result) ≡ false }
+    ensures names { ReadsOne reg.now (result_err result) }
     ensures same { S.holds shelf.new ≡ S.holds shelf.old }
     ensures causes { CommandCauses (tally S.faults S.misses S.write_faults S.blamed shelf.old) (tally S.faults S.misses S.write_faults S.blamed shelf.new) (result_err result) }
 {
@@ -98,6 +100,7 @@ pub fn write_blob<S: Shelf>(
     ensures done { OnOk result (OnlyInserts out.now text.now (S.holds shelf.old) (S.holds shelf.new)) }
     ensures refused { OnErr result (OnlyWrites (Some out.now) (S.holds shelf.old) (S.holds shelf.new)) }
     ensures lost { IfErr result (λ e. (keeps_blobs e ≡ false) × (is_free e ≡ true) × (is_bad_words e ≡ false)) }
+    ensures names { IfErr result (λ e. (is_read_fault e ≡ false) × (is_write_fault e ≡ true → unwritten_blob e ≡ out.now)) }
     ensures causes { CommandCauses (tally S.faults S.misses S.write_faults S.blamed shelf.old) (tally S.faults S.misses S.write_faults S.blamed shelf.new) (result_err result) }
 {
     match shelf.write(alloc, out, text) {
