@@ -4,6 +4,6 @@
 mod promises;
 
 pub use promises::{
-    laws_of_division, laws_of_lists, laws_of_products, laws_of_roots, laws_of_sums, laws_of_values,
-    no_divisors_of_zero,
+    laws_of_binomials, laws_of_derivatives, laws_of_division, laws_of_lists, laws_of_products,
+    laws_of_roots, laws_of_shifts, laws_of_sums, laws_of_values, no_divisors_of_zero,
 };

@@ -1,10 +1,12 @@
 //! The laws of rings, fields and polynomials that the other crates rest on, each as the contract of a function that does nothing.
 
-ghost use Rattle.std.specs.Prelude.{◌≡◌, ◌≢◌, ◌↔◌, ℕ, ◌+◌, ◌<◌, ◌≤◌, List};
+ghost use Rattle.std.specs.Prelude.{◌≡◌, ◌≢◌, ◌↔◌, ℕ, ◌+◌, ◌%◌, ◌<◌, ◌≤◌, IsTrue, List};
+ghost use Rattle.algebra.specs.Binomials.{binomial, has_bits};
+ghost use Rattle.algebra.specs.Bivariate.{Bivariate, HasMultiplicity, IsWithin, coefficient, hasse_derivative, shift_of, substituted};
 ghost use Rattle.algebra.specs.Lists.{IsListOf};
 ghost use Rattle.algebra.specs.Ring.{IsField, Ring};
 ghost use Rattle.algebra.specs.Roots.{AreDifferent, HasRoot, total};
-ghost use Rattle.algebra.specs.Series.{IsBelow, constant, linear, product, value};
+ghost use Rattle.algebra.specs.Series.{IsBelow, constant, linear, linear_power, product, value};
 ghost use Rattle.algebra.specs.Sums.{sum_below};
 
 /// A product in a field is zero only where a factor is.
@@ -50,4 +52,27 @@ pub fn laws_of_roots<F>()
 /// A polynomial has only one list of coefficients without zeros at its end.
 pub fn laws_of_lists<F>()
     ensures { (ring : Ring F) (p : ℕ → F) (xs ys : List F) → IsListOf ring p xs → IsListOf ring p ys → xs ≡ ys }
+{}
+
+/// Binomials modulo two.
+pub fn laws_of_binomials()
+    // a binomial is odd exactly where each bit of the lower number is one of the upper
+    ensures { (i u : ℕ) → IsTrue (has_bits i u) ↔ (binomial i u % 2 ≡ 1) }
+{}
+
+/// Hasse derivatives of polynomials in two variables.
+pub fn laws_of_derivatives<F>()
+    // a polynomial is the sum of its derivatives at (a, b) times powers of x + a and y + b
+    ensures expansion { (ring : Ring F) (m d : ℕ) (q : Bivariate F) (a b : F) → IsWithin m d q → (i j : ℕ) →
+        coefficient ring q i j
+        ≡ sum_below ring m (λ u. sum_below ring d (λ v. ring.times (hasse_derivative ring q u v a b) (ring.times (linear_power ring a u i) (linear_power ring b v j)))) }
+    // where Q has multiplicity at least s at (a, f(a)), (x + a)^s divides Q(x, f(x))
+    ensures division { (ring : Ring F) → IsField ring → (q : Bivariate F) (n s : ℕ) (f : ℕ → F) (a : F) → IsBelow ring n f
+        → HasMultiplicity ring s q a (value ring n f a) → HasRoot ring s (substituted ring q f) a }
+{}
+
+/// What stands for Q(x, x y + g) gives at y = f(x) what Q gives at y = x f(x) + g.
+pub fn laws_of_shifts<F>()
+    ensures { (ring : Ring F) (q shifted : Bivariate F) (g : F) → ((i j : ℕ) → coefficient ring shifted i j ≡ shift_of ring q g i j)
+        → (f : ℕ → F) (k : ℕ) → substituted ring shifted f k ≡ substituted ring q (λ i. ring.plus (product ring (linear ring ring.nil) f i) (constant ring g i)) k }
 {}
