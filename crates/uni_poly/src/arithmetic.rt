@@ -64,8 +64,9 @@ fn add_product<F: Field, P: Ledger>(target: &mut [F], left: &[F], right: &[F], p
     }
 }
 
-// Adds the factor times the coefficients of `source` to those of `target` from place `at` on.
-fn add_shifted<F: Field, P: Ledger>(
+/// Adds the factor times x^at times one polynomial to another, both as lists of coefficients with the lowest first. There is no
+/// coefficient past the end of `target`, so it has to be long enough.
+pub fn add_shifted<F: Field, P: Ledger>(
     target: &mut [F],
     source: &[F],
     factor: F,
@@ -73,6 +74,7 @@ fn add_shifted<F: Field, P: Ledger>(
     prods: &mut Steps<P>,
 )
     requires { at + length source.now ≤ length target.old }
+    ensures length { length target.new ≡ length target.old }
     ensures before { (k : ℕ) → k < at → coefficients F.ring target.new k ≡ coefficients F.ring target.old k }
     ensures from { (k : ℕ) → coefficients F.ring target.new (at + k) ≡ F.ring.plus (coefficients F.ring target.old (at + k)) (F.ring.times factor (coefficients F.ring source.now k)) }
     ensures products { prods.new ≡ prods.old + length source.now }

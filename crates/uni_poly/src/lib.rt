@@ -8,8 +8,9 @@ mod root_search;
 mod tests;
 mod values;
 
+pub use arithmetic::add_shifted;
 use lists::Items;
-pub use poly::Poly;
+pub use poly::{Poly, trimmed};
 
 /// A list of polynomials over the field `F`.
 pub type PolyList<F> = Items<Poly<F>>;

@@ -70,6 +70,13 @@ impl<F: Field> Poly<F> {
     }
 }
 
+/// The same coefficients without the zeros at the end.
+pub fn trimmed<F: Field>(coefs: &[F]) -> &[F]
+    ensures { IsListOf F.ring (coefficients F.ring coefs.now) result.now }
+{
+    &coefs[..significant(coefs)]
+}
+
 // How many coefficients are left when zeros at the end are dropped.
 fn significant<F: Field>(coefs: &[F]) -> usize
     ensures within { result ≤ length coefs.now }
