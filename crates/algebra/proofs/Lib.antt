@@ -1,5 +1,6 @@
 pub mod Laws
 pub mod Sums
+pub mod Entries
 pub mod Series
 pub mod Nested
 pub mod Division
