@@ -1,4 +1,5 @@
 pub mod Laws
+pub mod Binomials
 pub mod Sums
 pub mod Entries
 pub mod Series
