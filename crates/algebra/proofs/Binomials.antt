@@ -100,7 +100,7 @@ pub bits_none : (i : ℕ) → has_bits i 0 ≡ true
 bits_none i = let least : bit_and i 0 ≤ 0 = and_le_r i 0 in eq-eqb (bit_and i 0) 0 (omega arith)
 
 -- zero has no bits
-zero_bits : (u : ℕ) → has_bits 0 (suc u) ≡ false
+pub zero_bits : (u : ℕ) → has_bits 0 (suc u) ≡ false
 zero_bits u = ne_eqb 0 (suc u) (λ e. omega arith)
 
 -- one where odd

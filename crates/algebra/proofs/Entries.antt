@@ -1,5 +1,5 @@
 -- A polynomial in two variables by the entries of its map: sums over them, and the greatest weight of one.
-use Rattle.std.proofs.Common.{◌≡◌, ◌≢◌, inl, inr, ℕ, ◌+◌, ◌<◌, ◌≤◌, List, [], ◌∷◌, length, refl, sym, ◌∙◌, ap, ap₂, subst, arith}
+use Rattle.std.proofs.Common.{◌≡◌, ◌≢◌, inl, inr, ◌⊎◌, ℕ, ◌+◌, ◌<◌, ◌≤◌, List, [], ◌∷◌, length, refl, sym, ◌∙◌, ap, ap₂, subst, arith}
 use Rattle.std.specs.Prelude.{Bool, true, false, cond, ◌&&◌, T, max, None, Some, is_some}
 use Rattle.std.specs.Option.{unwrap_or}
 use Rattle.std.specs.Ordering.{nat_cmp, ordering_then, eq_by_cmp, is_eq, is_lt}
@@ -60,6 +60,16 @@ find_first e es n = not_none e.1 (sym (ap (λ r. cond (is_eq r) (Some e.1) (find
 find_later : {X : Type 0} (q : ℕ × ℕ) (e : (ℕ × ℕ) × X) (es : List ((ℕ × ℕ) × X)) → find pair_cmp q es ≢ None → find pair_cmp q (e ∷ es) ≢ None
 find_later q e es n =
     elim (eq_by_cmp pair_cmp q e.0) as (λ b. cond b (Some e.1) (find pair_cmp q es) ≢ None) [ true ↦ not_none e.1 | false ↦ n ]
+
+-- a polynomial has no coefficients outside of its bounds
+pub coefficient_past : {F : Type 0} (R : Ring F) (m d : ℕ) (q : Bivariate F) → IsWithin m d q → (i j : ℕ) → (m ≤ i) ⊎ (d ≤ j) → coefficient R q i j ≡ R.nil
+coefficient_past {F} R m d q w i j past =
+    elim (get q (i, j)) as (λ o. (o ≢ None → (i < m) × (j < d)) → unwrap_or o R.nil ≡ R.nil) [
+      | None ↦ λ h. refl
+      | Some x ↦ λ h.
+          let inside : (i < m) × (j < d) = h (not_none x) in
+          elim past [ inl l ↦ absurd (omega arith) | inr l ↦ absurd (omega arith) ]
+    ] (w i j)
 
 -- the sum of all terms is the sum over a rectangle in which the entries lie
 module _ {F : Type 0} (R : Ring F) (term : ℕ → ℕ → F → F) (additive : (i j : ℕ) (x y : F) → term i j (R.plus x y) ≡ R.plus (term i j x) (term i j y)) where

@@ -10,3 +10,6 @@ pub mod Roots
 pub mod Fields
 pub mod Multiplicity
 pub mod CoefficientLists
+pub mod Weights
+pub mod Taylor
+pub mod Derivatives
