@@ -13,3 +13,5 @@ pub mod CoefficientLists
 pub mod Weights
 pub mod Taylor
 pub mod Derivatives
+pub mod Substitution
+pub mod Composition

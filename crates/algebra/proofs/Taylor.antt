@@ -36,7 +36,8 @@ module _ {F G : Type 0} (R : Ring F) (S : Ring G) (into : F → G) (h : IsHom R 
   infixl 70 ◌⊗◌
   open S use {nil, unit, plus as ◌⊕◌, times as ◌⊗◌}
 
-  nested_constant : (d : ℕ) (x : F) (c : G) → nested S into (suc d) (constant R x) c ≡ into x
+  -- the value of a constant
+  pub nested_constant : (d : ℕ) (x : F) (c : G) → nested S into (suc d) (constant R x) c ≡ into x
   nested_constant d x c =
       nested_next R S into h d (constant R x) c
       ∙ ap (λ t. into x ⊕ c ⊗ t) (nested_zero R S into h d (λ k. constant R x (suc k)) c (λ k l. refl))
