@@ -5,10 +5,10 @@ use Rattle.algebra.specs.Ring.{Ring, IsField}
 use Rattle.algebra.specs.Series.{product, constant, linear, value, IsBelow, IsFrom}
 use Rattle.algebra.specs.Roots.{HasRoot}
 use Rattle.algebra.specs.Bivariate.{Bivariate, HasMultiplicity, IsWithin, greatest, x_power, y_power, substituted}
-use Rattle.algebra.proofs.Laws.{ring, plus_nil}
+use Rattle.algebra.proofs.Laws.{ring}
 use Rattle.algebra.proofs.Series.{product_comm, product_below, product_from_one, series}
-use Rattle.algebra.proofs.Nested.{nested, itself, nested_none, nested_next, nested_sum, nested_zero, nested_more, nested_product, value_nested, value_more, below_more}
-use Rattle.algebra.proofs.Shift.{IsDomain, shifted, shifted_value, shifted_more, constants}
+use Rattle.algebra.proofs.Nested.{nested, itself, nested_none, nested_next, nested_sum, nested_zero, nested_product, value_nested, value_more, below_more}
+use Rattle.algebra.proofs.Shift.{shifted, shifted_value, shifted_more, constants}
 use Rattle.algebra.proofs.Roots.{Split, split}
 use Rattle.algebra.proofs.Fields.{domain}
 use Rattle.algebra.proofs.Taylor.{nested_about, nested_constant}
@@ -96,7 +96,7 @@ module _ {F : Type 0} (R : Ring F) where
   constant_below b (suc k) l = refl
 
   -- about b in y
-  composed_about : (d : ℕ) (Q : ℕ → ℕ → F) (f : ℕ → F) (b : F)
+  pub composed_about : (d : ℕ) (Q : ℕ → ℕ → F) (f : ℕ → F) (b : F)
       → composed d (shifted (series R) d Q (constant R b)) (λ k. f k ⊕ constant R b k) ≡ composed d Q f
   unfolding series
   composed_about d Q f b = nested_about (series R) (series R) (λ t. t) (itself (series R)) d Q (constant R b) f

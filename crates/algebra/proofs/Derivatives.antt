@@ -1,8 +1,8 @@
 -- The Hasse derivatives of a polynomial in two variables are its coefficients about a point.
-use Rattle.std.proofs.Common.{◌≡◌, inl, inr, ℕ, zero, suc, ◌<◌, ◌≤◌, refl, sym, ◌∙◌, ap, ap₂, arith}
+use Rattle.std.proofs.Common.{◌≡◌, inl, inr, ℕ, zero, suc, sym, ◌∙◌, ap, ap₂}
 use Rattle.algebra.specs.Ring.{Ring}
 use Rattle.algebra.specs.Sums.{sum_below}
-use Rattle.algebra.specs.Series.{product, constant, linear_power, IsBelow}
+use Rattle.algebra.specs.Series.{constant, linear_power, IsBelow}
 use Rattle.algebra.specs.Bivariate.{Bivariate, IsWithin, coefficient, weight, hasse_derivative}
 use Rattle.algebra.proofs.Laws.{ring, nil_times}
 use Rattle.algebra.proofs.Sums.{sum_same, sum_zero, sum_scaled, sum_exchange}

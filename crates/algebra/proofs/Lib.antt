@@ -15,3 +15,4 @@ pub mod Taylor
 pub mod Derivatives
 pub mod Substitution
 pub mod Composition
+pub mod Stretch

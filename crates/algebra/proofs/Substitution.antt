@@ -1,11 +1,10 @@
 -- What a polynomial in two variables gives at y = f(x), by nested products in the ring of series.
-use Rattle.std.proofs.Common.{◌≡◌, inl, inr, ℕ, zero, suc, ◌-◌, ◌<◌, ◌≤◌, refl, sym, ◌∙◌, ap, ap₂, arith}
+use Rattle.std.proofs.Common.{◌≡◌, inl, inr, ℕ, zero, suc, ◌-◌, ◌<◌, ◌≤◌, sym, ◌∙◌, ap, ap₂, arith}
 use Rattle.std.specs.Prelude.{if◌then◌else◌}
 use Rattle.std.proofs.lemmas.Bool.{cases_lt, lt-ltb, le-ltb}
-use mathlib.Core.Path.{fun_ext}
 use Rattle.algebra.specs.Ring.{Ring}
 use Rattle.algebra.specs.Sums.{sum_below, power}
-use Rattle.algebra.specs.Series.{product, constant, IsBelow}
+use Rattle.algebra.specs.Series.{product, IsBelow}
 use Rattle.algebra.specs.Bivariate.{Bivariate, IsWithin, coefficient, power_of, raised, substituted}
 use Rattle.algebra.proofs.Laws.{ring, times_nil}
 use Rattle.algebra.proofs.Sums.{sum_none, sum_next, sum_same, sum_zero, sum_exchange, power_none, power_next}

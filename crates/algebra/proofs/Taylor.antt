@@ -1,18 +1,16 @@
 -- A polynomial from its coefficients about a point.
-use Rattle.std.proofs.Common.{◌≡◌, ℕ, zero, suc, ◌+◌, ◌<◌, refl, sym, ◌∙◌, ap, ap₂, arith}
+use Rattle.std.proofs.Common.{◌≡◌, ℕ, zero, suc, ◌+◌, refl, sym, ◌∙◌, ap, ap₂, arith}
 use mathlib.Core.Path.{fun_ext}
 use Rattle.algebra.specs.Ring.{Ring}
 use Rattle.algebra.specs.Sums.{sum_below, power}
 use Rattle.algebra.specs.Series.{product, constant, linear, linear_power, IsBelow}
-use Rattle.algebra.specs.Bivariate.{weight}
-use Rattle.algebra.proofs.Laws.{ring, plus_nil, times_nil}
-use Rattle.algebra.proofs.Sums.{sum_none, sum_next, sum_same, sum_scaled, sum_exchange, power_none, power_next}
-use Rattle.algebra.proofs.Series.{product_constant, product_same, series}
+use Rattle.algebra.proofs.Laws.{ring, plus_nil}
+use Rattle.algebra.proofs.Sums.{sum_none, sum_next, sum_same, power_none, power_next}
+use Rattle.algebra.proofs.Series.{product_constant, series}
 use Rattle.algebra.proofs.Nested.{nested, IsHom, nested_none, nested_next, nested_sum, nested_zero, nested_more, nested_product, nested_is_sum, below_tail}
 use Rattle.algebra.proofs.Division.{linear_first, linear_next}
 use Rattle.algebra.proofs.Shift.{shifted, shifted_below, linear_below, constants}
 use Rattle.algebra.proofs.Roots.{power_first, power_more}
-use Rattle.algebra.proofs.Weights.{shifted_is_sum}
 
 module _ {F : Type 0} (R : Ring F) where
   infixl 60 ◌⊕◌

@@ -1,13 +1,13 @@
 -- The coefficients of (x + a)^i, and what they say of a polynomial about a.
-use Rattle.std.proofs.Common.{◌≡◌, inl, inr, ℕ, zero, suc, ◌-◌, ◌<◌, ◌≤◌, Bool, true, false, refl, sym, ◌∙◌, ap, ap₂, arith}
+use Rattle.std.proofs.Common.{◌≡◌, inl, inr, ℕ, zero, suc, ◌-◌, ◌≤◌, true, false, sym, ◌∙◌, ap, ap₂, arith}
 use Rattle.std.specs.Prelude.{if◌then◌else◌, bit_and}
-use Rattle.std.proofs.lemmas.Bool.{cases_Bool, eqb-true, ne_eqb}
+use Rattle.std.proofs.lemmas.Bool.{cases_Bool, eqb-true}
 use Rattle.std.proofs.lemmas.Nat.{and_le_l}
 use Rattle.algebra.specs.Ring.{Ring}
 use Rattle.algebra.specs.Sums.{sum_below, power}
 use Rattle.algebra.specs.Binomials.{has_bits}
 use Rattle.algebra.specs.Bivariate.{weight}
-use Rattle.algebra.proofs.Laws.{ring, times_nil, nil_times, plus_nil}
+use Rattle.algebra.proofs.Laws.{ring, times_nil}
 use Rattle.algebra.proofs.Binomials.{differ, pascal, bits_none, zero_bits}
 use Rattle.algebra.proofs.Sums.{sum_none, sum_next, sum_same, sum_plus, sum_scaled, power_none, power_next}
 use Rattle.algebra.proofs.Shift.{shifted, shifted_none, shifted_first, shifted_next}
