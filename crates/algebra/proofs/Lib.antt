@@ -1,5 +1,7 @@
 pub mod Laws
+pub mod Binomials
 pub mod Sums
+pub mod Entries
 pub mod Series
 pub mod Nested
 pub mod Division
@@ -8,3 +10,9 @@ pub mod Roots
 pub mod Fields
 pub mod Multiplicity
 pub mod CoefficientLists
+pub mod Weights
+pub mod Taylor
+pub mod Derivatives
+pub mod Substitution
+pub mod Composition
+pub mod Stretch

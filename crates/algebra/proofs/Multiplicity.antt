@@ -1,5 +1,5 @@
 -- What (x + a)^s divides has s zeros about a, and so there are no more roots, counted with multiplicity, than the degree.
-use Rattle.std.proofs.Common.{◌≡◌, ◌≢◌, inl, inr, ℕ, zero, suc, ◌+◌, ◌<◌, ◌≤◌, refl, sym, ◌∙◌, ap, ap₂, subst, arith}
+use Rattle.std.proofs.Common.{◌≡◌, ◌≢◌, inl, inr, ℕ, zero, suc, ◌+◌, ◌<◌, ◌≤◌, sym, ◌∙◌, ap, ap₂, subst, arith}
 use Rattle.std.proofs.Math.Numerals.{add-one}
 use Rattle.std.proofs.lemmas.Bool.{cases_lt}
 use mathlib.Core.Path.{fun_ext}
@@ -9,7 +9,7 @@ use Rattle.algebra.specs.Roots.{HasRoot, total, AreDifferent}
 use Rattle.algebra.proofs.Series.{product_comm, product_below, product_zero, product_from, product_from_one, product_constant, series}
 use Rattle.algebra.proofs.Nested.{itself, nested_sum, nested_product, value_nested, below_more}
 use Rattle.algebra.proofs.Division.{quotient, quotient_below, divided, divides}
-use Rattle.algebra.proofs.Shift.{IsDomain, shifted, shifted_value, shifted_more, shifted_factor, constants}
+use Rattle.algebra.proofs.Shift.{IsDomain, shifted, shifted_value, shifted_more, shifted_factor, linear_below, constants}
 use Rattle.algebra.proofs.Roots.{power_first, power_more, few_zeros}
 
 module _ {F : Type 0} (R : Ring F) where
@@ -29,11 +29,6 @@ module _ {F : Type 0} (R : Ring F) where
       ∙ nested_product R R (λ t. t) (itself R) d e p q x bp bq
       ∙ sym (ap₂ (λ (s t : F). s ⊗ t) (value_nested R d p x) (value_nested R e q x))
 
-  pub linear_below : (a : F) → IsBelow R 2 (linear R a)
-  linear_below a zero l = absurd (omega arith)
-  linear_below a (suc zero) l = absurd (omega arith)
-  linear_below a (suc (suc k)) l = refl
-
   pub power_below : (a : F) (s : ℕ) → IsBelow R (suc s) (linear_power R a s)
   power_below a zero zero l = absurd (omega arith)
   power_below a zero (suc k) l = power_first R a (suc k)
@@ -41,7 +36,7 @@ module _ {F : Type 0} (R : Ring F) where
       let n : suc s + 1 ≡ suc (suc s) = omega arith in
       power_more R a s k
       ∙ product_comm R (linear R a) (linear_power R a s) k
-      ∙ product_below R (suc s) 1 (linear_power R a s) (linear R a) (power_below a s) (linear_below a) k (omega arith)
+      ∙ product_below R (suc s) 1 (linear_power R a s) (linear R a) (power_below a s) (linear_below R a) k (omega arith)
 
   -- (x + a)^s about a is x^s
   power_front : (a : F) (s : ℕ) → IsFrom R s (shifted R (suc s) (linear_power R a s) a)

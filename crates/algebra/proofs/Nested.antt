@@ -76,6 +76,17 @@ module _ {F G : Type 0} (R : Ring F) (S : Ring G) (into : F → G) (h : IsHom R 
       sym (nested_more e (suc (d + e)) q c bq (omega arith)) ∙ nested_next (d + e) q c in
       rw n (simp (nested_next, product_first, product_next, nested_sum, nested_scaled, rest, h.keeps_times, longer, ring))
 
+  -- the sum of the coefficients' multiples of the powers
+  pub nested_is_sum : (d : ℕ) (p : ℕ → F) (c : G) → nested S into d p c ≡ sum_below S d (λ i. into (p i) ⊗ power S c i)
+  nested_is_sum zero p c = nested_none p c ∙ sym (sum_none S (λ i. into (p i) ⊗ power S c i))
+  nested_is_sum (suc d) p c =
+      let term : (i : ℕ) → c ⊗ (into (p (suc i)) ⊗ power S c i) ≡ into (p (suc i)) ⊗ power S c (suc i) = λ i. simp (power_next S c i, ring) in
+      let rest : c ⊗ nested S into d (λ k. p (suc k)) c ≡ sum_below S d (λ i. into (p (suc i)) ⊗ power S c (suc i)) =
+      ap (λ t. c ⊗ t) (nested_is_sum d (λ k. p (suc k)) c)
+      ∙ sym (sum_scaled S d c (λ i. into (p (suc i)) ⊗ power S c i))
+      ∙ sum_same S d (λ i. c ⊗ (into (p (suc i)) ⊗ power S c i)) (λ i. into (p (suc i)) ⊗ power S c (suc i)) (λ i l. term i) in
+      nested_next d p c ∙ ap₂ (λ (s t : G). s ⊕ t) (simp (power_none, ring)) rest ∙ sym (sum_next S d (λ i. into (p i) ⊗ power S c i))
+
 -- each ring goes into itself
 pub itself : {F : Type 0} (R : Ring F) → IsHom R R (λ x. x)
 itself R = record { keeps_nil = refl; keeps_unit = refl; keeps_plus = λ x y. refl; keeps_times = λ x y. refl }
@@ -87,16 +98,7 @@ module _ {F : Type 0} (R : Ring F) where
 
   -- the sum of the powers' multiples, by nested products
   pub value_nested : (d : ℕ) (p : ℕ → F) (x : F) → value R d p x ≡ nested R (λ t. t) d p x
-  value_nested zero p x = sum_none R (λ i. p i ⊗ power R x i) ∙ sym (nested_none R R (λ t. t) (itself R) p x)
-  value_nested (suc d) p x =
-      let term : (i : ℕ) → p (suc i) ⊗ power R x (suc i) ≡ x ⊗ (p (suc i) ⊗ power R x i) = λ i. simp (power_next R x i, ring) in
-      let rest : sum_below R d (λ i. p (suc i) ⊗ power R x (suc i)) ≡ x ⊗ nested R (λ t. t) d (λ k. p (suc k)) x =
-      sum_same R d (λ i. p (suc i) ⊗ power R x (suc i)) (λ i. x ⊗ (p (suc i) ⊗ power R x i)) (λ i l. term i)
-      ∙ sum_scaled R d x (λ i. p (suc i) ⊗ power R x i)
-      ∙ ap (λ t. x ⊗ t) (value_nested d (λ k. p (suc k)) x) in
-      sum_next R d (λ i. p i ⊗ power R x i)
-      ∙ ap₂ (λ (s t : F). s ⊕ t) (simp (power_none, ring)) rest
-      ∙ sym (nested_next R R (λ t. t) (itself R) d p x)
+  value_nested d p x = sym (nested_is_sum R R (λ t. t) (itself R) d p x)
 
   -- a value by its first coefficient and the value of the rest
   pub value_next : (d : ℕ) (p : ℕ → F) (x : F) → value R (suc d) p x ≡ p 0 ⊕ x ⊗ value R d (λ k. p (suc k)) x

@@ -56,6 +56,24 @@ module _ {F : Type 0} (R : Ring F) where
       ap (λ (t : ℕ → F). t 0) (nested_next R (series R) (constant R) constants d p (linear R a))
       ∙ ap (λ t. p 0 ⊕ t) (linear_first R a (shifted R d (λ k. p (suc k)) a))
 
+  -- each further coefficient comes from two of the rest
+  pub shifted_next : (d : ℕ) (p : ℕ → F) (a : F) (u : ℕ)
+      → shifted R (suc d) p a (suc u) ≡ shifted R d (λ k. p (suc k)) a u ⊕ a ⊗ shifted R d (λ k. p (suc k)) a (suc u)
+  unfolding series
+  shifted_next d p a u =
+      ap (λ (t : ℕ → F). t (suc u)) (nested_next R (series R) (constant R) constants d p (linear R a))
+      ∙ ap (λ t. nil ⊕ t) (linear_next R a (shifted R d (λ k. p (suc k)) a) u)
+      ∙ R.plus_nil (shifted R d (λ k. p (suc k)) a u ⊕ a ⊗ shifted R d (λ k. p (suc k)) a (suc u))
+
+  -- a polynomial has no more coefficients about a
+  pub shifted_below : (d : ℕ) (p : ℕ → F) (a : F) → IsBelow R d (shifted R d p a)
+  shifted_below zero p a k l = shifted_none p a k
+  shifted_below (suc d) p a zero l = absurd (omega arith)
+  shifted_below (suc d) p a (suc u) l =
+      let here : shifted R d (λ k. p (suc k)) a u ≡ nil = shifted_below d (λ k. p (suc k)) a u (omega arith) in
+      let next : shifted R d (λ k. p (suc k)) a (suc u) ≡ nil = shifted_below d (λ k. p (suc k)) a (suc u) (omega arith) in
+      shifted_next d p a u ∙ simp (here, next, ring)
+
   -- the first coefficient about a is the value at a
   pub shifted_value : (d : ℕ) (p : ℕ → F) (a : F) → shifted R d p a 0 ≡ nested R (λ t. t) d p a
   shifted_value zero p a = shifted_none p a 0 ∙ sym (nested_none R R (λ t. t) (itself R) p a)
@@ -66,7 +84,7 @@ module _ {F : Type 0} (R : Ring F) where
   pub shifted_more : (d e : ℕ) (p : ℕ → F) (a : F) → IsBelow R d p → d ≤ e → shifted R e p a ≡ shifted R d p a
   shifted_more d e p a b l = nested_more R (series R) (constant R) constants d e p (linear R a) b l
 
-  linear_below : (a : F) → IsBelow R 2 (linear R a)
+  pub linear_below : (a : F) → IsBelow R 2 (linear R a)
   linear_below a zero l = absurd (omega arith)
   linear_below a (suc zero) l = absurd (omega arith)
   linear_below a (suc (suc k)) l = refl

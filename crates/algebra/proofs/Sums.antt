@@ -1,8 +1,8 @@
 -- Sums over a range.
-use Rattle.std.proofs.Common.{◌≡◌, ℕ, zero, suc, ◌<◌, refl, sym, ◌∙◌, ap, ap₂, arith}
+use Rattle.std.proofs.Common.{◌≡◌, ◌≢◌, ℕ, zero, suc, ◌<◌, ◌≤◌, refl, sym, ◌∙◌, ap, ap₂, arith}
 use Rattle.algebra.specs.Ring.{Ring}
 use Rattle.algebra.specs.Sums.{sum_below, power}
-use Rattle.algebra.proofs.Laws.{ring}
+use Rattle.algebra.proofs.Laws.{ring, plus_nil}
 
 module _ {F : Type 0} (R : Ring F) where
   infixl 60 ◌⊕◌
@@ -56,3 +56,29 @@ module _ {F : Type 0} (R : Ring F) where
       ∙ ap (λ t. sum_below R n (λ j. f 0 j) ⊕ t) (sum_exchange m n (λ i j. f (suc i) j))
       ∙ sym (sum_plus n (λ j. f 0 j) (λ j. sum_below R m (λ i. f (suc i) j)))
       ∙ sum_same n (λ j. f 0 j ⊕ sum_below R m (λ i. f (suc i) j)) (λ j. sum_below R (suc m) (λ i. f i j)) (λ j l. sym (sum_next m (λ i. f i j)))
+
+  -- no term is other than zero
+  pub sum_zero : (n : ℕ) (f : ℕ → F) → ((i : ℕ) → i < n → f i ≡ nil) → sum_below R n f ≡ nil
+  sum_zero n f h = sum_same n f (λ i. nil) h ∙ sum_nil n
+
+  -- one term is other than zero
+  pub sum_only : (n k : ℕ) (f : ℕ → F) → k < n → ((i : ℕ) → i < n → i ≢ k → f i ≡ nil) → sum_below R n f ≡ f k
+  sum_only zero k f l h = absurd (omega arith)
+  sum_only (suc n) zero f l h =
+      sum_next n f
+      ∙ ap (λ t. f 0 ⊕ t) (sum_zero n (λ i. f (suc i)) (λ i m. h (suc i) (omega arith) (λ e. omega arith)))
+      ∙ plus_nil R (f 0)
+  sum_only (suc n) (suc k) f l h =
+      sum_next n f
+      ∙ ap₂ (λ (s t : F). s ⊕ t) (h 0 (omega arith) (λ e. omega arith))
+      (sum_only n k (λ i. f (suc i)) (omega arith) (λ i m o. h (suc i) (omega arith) (λ e. o (omega arith))))
+      ∙ R.plus_nil (f (suc k))
+
+  -- terms that are zero count for nothing
+  pub sum_more : (m n : ℕ) (f : ℕ → F) → m ≤ n → ((i : ℕ) → m ≤ i → f i ≡ nil) → sum_below R m f ≡ sum_below R n f
+  sum_more zero n f l h = sum_none f ∙ sym (sum_zero n f (λ i k. h i (omega arith)))
+  sum_more (suc m) zero f l h = absurd (omega arith)
+  sum_more (suc m) (suc n) f l h =
+      sum_next m f
+      ∙ ap (λ t. f 0 ⊕ t) (sum_more m n (λ i. f (suc i)) (omega arith) (λ i k. h (suc i) (omega arith)))
+      ∙ sym (sum_next n f)
