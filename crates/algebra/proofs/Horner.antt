@@ -53,6 +53,13 @@ module _ {F : Type 0} (R : Ring F) (n : ℕ) (p : ℕ → F) (a : F) where
         nested_from-end i l ∙ sym (ap₂ (λ (s t : F). s ⊗ a ⊕ t) (nested_from-end (suc i) (omega arith)) (b i l) ∙ none)
   ]
 
+  -- a loop that goes down to u stops there, or stays at the end where u is past it
+  pub nested_from-stop : (i u : ℕ) → i ≤ u → (i < n → u ≤ i) → nested_from i ≡ nested_from u
+  nested_from-stop i u l h = elim (cases_lt i n) [
+    | inl m ↦ let least : u ≤ i = h m in let same : i ≡ u = omega arith in ap nested_from same
+    | inr m ↦ nested_from-end i m ∙ sym (nested_from-end u (omega arith))
+  ]
+
   -- from the front on it is the whole value
   pub nested_from-all : nested_from 0 ≡ value R n p a
   unfolding nested_from
