@@ -16,3 +16,4 @@ pub mod Derivatives
 pub mod Substitution
 pub mod Composition
 pub mod Stretch
+pub mod Horner

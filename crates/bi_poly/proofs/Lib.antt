@@ -2,3 +2,4 @@ pub mod Cells
 pub mod Outcomes
 pub mod Heights
 pub mod Adding
+pub mod RowDerivatives

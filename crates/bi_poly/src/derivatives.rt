@@ -21,8 +21,9 @@ impl<F: Field> BiPoly<F> {
         ensures products { prods.new ≤ prods.old + total (greatest y_power self.now + 1) (λ j. greatest (x_power_at j) self.now + 2) }
         ensures none { self.now ≡ empty → prods.new ≡ prods.old }
     {
+        let height = height(&self.rows);
         let mut value = F::zero();
-        'rows: for j in (v..height(&self.rows)).rev() {
+        'rows: for j in (v..height).rev() {
             let row = derivative_where_odd(&self.rows[j], u, a, j, v, prods);
             value = value.mul(b, prods).add(row);
         }

@@ -1,14 +1,12 @@
--- Values by nested products, and the division by x + a that comes with them.
-use Rattle.std.proofs.Common.{◌≡◌, inl, inr, ℕ, zero, suc, ◌+◌, ◌-◌, ◌≤◌, List, length, sym, ◌∙◌, ap, ap₂, arith}
-use Rattle.std.proofs.lemmas.Bool.{cases_lt}
-use mathlib.Core.Path.{fun_ext}
+-- The division by x + a that comes with a value by nested products.
+use Rattle.std.proofs.Common.{◌≡◌, ℕ, zero, suc, List, length, sym, ◌∙◌, ap, ap₂}
 use Rattle.algebra.specs.Ring.{Ring}
-use Rattle.algebra.specs.Series.{product, constant, linear, value}
+use Rattle.algebra.specs.Series.{product, constant, linear}
 use Rattle.algebra.specs.Lists.{coefficients, IsListOf}
 use Rattle.algebra.proofs.Laws.{ring}
-use Rattle.algebra.proofs.Nested.{nested, itself, nested_none, nested_next, value_nested}
 use Rattle.algebra.proofs.Division.{linear_first, linear_next}
 use Rattle.algebra.proofs.CoefficientLists.{coefficients_below}
+use Rattle.algebra.proofs.Horner.{nested_from, nested_from-each}
 use Rattle.uni_poly.specs.Division.{IsDivision}
 
 module _ {F : Type 0} (R : Ring F) (xs : List F) (a : F) where
@@ -17,45 +15,11 @@ module _ {F : Type 0} (R : Ring F) (xs : List F) (a : F) where
   open R use {nil, unit, plus as ◌⊕◌, times as ◌⊗◌}
 
   -- the value at a of the polynomial whose coefficients are those from place i on
-  pub value_from : ℕ → F
-  value_from i = nested R (λ t. t) (length xs - i) (λ k. coefficients R xs (i + k)) a
+  abbrev pub value_from : ℕ → F
+  value_from i = nested_from R (length xs) (coefficients R xs) a i
 
-  -- past the end
-  pub value_from-end : (i : ℕ) → length xs ≤ i → value_from i ≡ nil
-  unfolding value_from
-  value_from-end i l =
-      let none : length xs - i ≡ 0 = omega arith in
-      ap (λ n. nested R (λ t. t) n (λ k. coefficients R xs (i + k)) a) none ∙ nested_none R R (λ t. t) (itself R) (λ k. coefficients R xs (i + k)) a
-
-  -- one place further to the front
-  pub value_from-step : (i : ℕ) → value_from i ≡ value_from (suc i) ⊗ a ⊕ coefficients R xs i
-  unfolding value_from
-  value_from-step i = elim (cases_lt i (length xs)) [
-    | inl l ↦
-        let more : length xs - i ≡ suc (length xs - suc i) = omega arith in
-        let here : i + 0 ≡ i = omega arith in
-        let next : (k : ℕ) → i + suc k ≡ suc i + k = λ k. omega arith in
-        ap (λ n. nested R (λ t. t) n (λ k. coefficients R xs (i + k)) a) more
-        ∙ nested_next R R (λ t. t) (itself R) (length xs - suc i) (λ k. coefficients R xs (i + k)) a
-        ∙ ap₂ (λ (s t : F). s ⊕ t)
-        (ap (coefficients R xs) here)
-        (R.times_comm a (nested R (λ t. t) (length xs - suc i) (λ k. coefficients R xs (i + suc k)) a)
-        ∙ ap (λ (p : ℕ → F). nested R (λ t. t) (length xs - suc i) p a ⊗ a) (fun_ext (λ k. ap (coefficients R xs) (next k))))
-        ∙ R.plus_comm (coefficients R xs i) (value_from (suc i) ⊗ a)
-    | inr l ↦
-        let past : coefficients R xs i ≡ nil = coefficients_below R xs i l in
-        let after : value_from (suc i) ≡ nil = value_from-end (suc i) (omega arith) in
-        let none : nil ⊗ a ⊕ nil ≡ nil = simp ring in
-        value_from-end i l ∙ sym (ap₂ (λ (s t : F). s ⊗ a ⊕ t) after past ∙ none)
-  ]
-
-  -- from the front on it is the whole value
-  pub value_from-all : value_from 0 ≡ value R (length xs) (coefficients R xs) a
-  unfolding value_from
-  value_from-all =
-      let count : length xs - 0 ≡ length xs = omega arith in
-      let place : (k : ℕ) → 0 + k ≡ k = λ k. omega arith in
-      ap₂ (λ (n : ℕ) (p : ℕ → F). nested R (λ t. t) n p a) count (fun_ext (λ k. ap (coefficients R xs) (place k))) ∙ sym (value_nested R (length xs) (coefficients R xs) a)
+  value_from-step : (i : ℕ) → value_from i ≡ value_from (suc i) ⊗ a ⊕ coefficients R xs i
+  value_from-step = nested_from-each R (length xs) (coefficients R xs) a (coefficients_below R xs)
 
   -- the values from each place but the first are the quotient's coefficients, and the whole value is the rest
   pub division_of : (quotient whole : List F) (rest : F) → ((k : ℕ) → coefficients R quotient k ≡ value_from (suc k)) → rest ≡ value_from 0

@@ -1,7 +1,9 @@
 use Rattle.std.proofs.Common.{◌≡◌, ◌-◌, ℕ, suc, length, sym, ap, ap₂, subst, ◌∙◌, arith}
 use Rattle.std.proofs.lemmas.List.{length-set}
 use Rattle.uni_poly.specs.Division.{IsDivision}
-use Rattle.uni_poly.proofs.Horner.{value_from, value_from-end, value_from-step, division_of}
+use Rattle.algebra.specs.Lists.{coefficients}
+use Rattle.algebra.proofs.Horner.{nested_from-end, nested_from-step}
+use Rattle.uni_poly.proofs.Horner.{value_from, division_of}
 use Rattle.uni_poly.proofs.Filling.{read_at, written_at}
 use Rattle.uni_poly.proofs.poly.Poly.div_linear.Goals as goal
 
@@ -10,8 +12,8 @@ coefficients-init g c =
     let R = g.F.Field.ring in
     record {
       count = omega (arith, c.in_ok-quotient.ensures.count);
-      quotient = λ k l. c.in_ok-quotient.ensures.each k ∙ sym (value_from-end R c.as_slice-coefs.result.now c.args.a (suc k) (omega arith));
-      rest = c.zero-rest.ensures ∙ sym (value_from-end R c.as_slice-coefs.result.now c.args.a (length c.as_slice-coefs.result.now) (omega arith));
+      quotient = λ k l. c.in_ok-quotient.ensures.each k ∙ sym (nested_from-end R (length c.as_slice-coefs.result.now) (coefficients R c.as_slice-coefs.result.now) c.args.a (suc k) (omega arith));
+      rest = c.zero-rest.ensures ∙ sym (nested_from-end R (length c.as_slice-coefs.result.now) (coefficients R c.as_slice-coefs.result.now) c.args.a (length c.as_slice-coefs.result.now) (omega arith));
       products = omega arith;
     }
 
@@ -32,7 +34,7 @@ coefficients-preserved g c =
           ∙ ap₂ R.plus
           (c.mul.ensures.value ∙ ap (λ v. R.times v c.args.a) rest)
           (read_at R c.as_slice-coefs.result.now i c.index-coefs-i.result (omega arith) c.index-coefs-i.is)
-          ∙ sym (value_from-step R c.as_slice-coefs.result.now c.args.a i);
+          ∙ sym (nested_from-step R (length c.as_slice-coefs.result.now) (coefficients R c.as_slice-coefs.result.now) c.args.a i (omega arith));
       products = omega (arith, c.mul.ensures.ticks);
     }
 
