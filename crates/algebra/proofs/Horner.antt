@@ -60,13 +60,17 @@ module _ {F : Type 0} (R : Ring F) (n : ℕ) (p : ℕ → F) (a : F) where
     | inr m ↦ nested_from-end i m ∙ sym (nested_from-end u (omega arith))
   ]
 
-  -- from the front on it is the whole value
-  pub nested_from-all : nested_from 0 ≡ value R n p a
+  -- from the front on it is the whole
+  pub nested_from-front : nested_from 0 ≡ nested R (λ t. t) n p a
   unfolding nested_from
-  nested_from-all =
+  nested_from-front =
       let count : n - 0 ≡ n = omega arith in
       let place : (k : ℕ) → 0 + k ≡ k = λ k. omega arith in
-      ap₂ (λ (t : ℕ) (q : ℕ → F). nested R (λ t. t) t q a) count (fun_ext (λ k. ap p (place k))) ∙ sym (value_nested R n p a)
+      ap₂ (λ (t : ℕ) (q : ℕ → F). nested R (λ t. t) t q a) count (fun_ext (λ k. ap p (place k)))
+
+  -- which is the value
+  pub nested_from-all : nested_from 0 ≡ value R n p a
+  nested_from-all = nested_from-front ∙ sym (value_nested R n p a)
 
   nested_from-sum : (i : ℕ) → nested_from i ≡ sum_below R (n - i) (λ k. p (i + k) ⊗ power R a k)
   unfolding nested_from

@@ -3,3 +3,4 @@ pub mod Outcomes
 pub mod Heights
 pub mod Adding
 pub mod RowDerivatives
+pub mod SubstitutedRows

@@ -47,6 +47,7 @@ fn powers<F: Field, P: Ledger>(
     ensures count { IfOk result (λ powers. length powers.items ≡ count) }
     ensures each { IfOk result (λ powers. ArePowers F.ring g powers.items) }
     ensures products { prods.new ≤ prods.old + count }
+    ensures none { count ≡ 0 → prods.new ≡ prods.old }
 {
     let mut powers = Vec::with_capacity(alloc, count)?;
     let mut power = F::one();
@@ -67,6 +68,7 @@ fn shifted_row<F: Field, P: Ledger>(
 ) -> Result<Row<F>, AllocError>
     requires inside { h < length powers.now }
     requires rows { length powers.now ≤ length rows.now }
+    requires limit { (i j : ℕ) → 65536 ≤ i → cell F.ring rows.now i j ≡ F.ring.nil }
     ensures before { IfOk result (λ row. (k : ℕ) → k < h → coefficients F.ring row k ≡ F.ring.nil) }
     ensures from { (g : F) → ArePowers F.ring g powers.now → IfOk result (λ row. (k : ℕ) →
         coefficients F.ring row (h + k) ≡ sum_below F.ring (length powers.now) (λ j. F.ring.times (cell F.ring rows.now k j) (weight F.ring g j h))) }
