@@ -1,5 +1,5 @@
 -- The rows of Q(x, x y + g), and how many products they take.
-use Rattle.std.proofs.Common.{◌≡◌, ◌≢◌, ◌⊎◌, inl, inr, ℕ, zero, suc, ◌+◌, ◌-◌, ◌*◌, ◌<◌, ◌≤◌, true, false, List, [], ◌∷◌, ◌++◌, length, get_or, refl, sym, ◌∙◌, ap, ap₂, arith}
+use Rattle.std.proofs.Common.{◌≡◌, ◌≢◌, inl, inr, ℕ, zero, suc, ◌+◌, ◌-◌, ◌*◌, ◌<◌, ◌≤◌, true, false, List, [], ◌∷◌, ◌++◌, length, get_or, refl, sym, ◌∙◌, ap, ap₂, arith}
 use Rattle.std.specs.Prelude.{Bool, if◌then◌else◌}
 use Rattle.std.specs.FinMap.{empty}
 use Rattle.std.proofs.lemmas.Bool.{cases_lt}
@@ -10,10 +10,10 @@ use Rattle.std.proofs.Math.ListN.{get_or-append}
 use mathlib.Core.Path.{fun_ext}
 use Rattle.algebra.specs.Ring.{Ring}
 use Rattle.algebra.specs.Sums.{sum_below, power}
-use Rattle.algebra.specs.Series.{constant, IsBelow}
+use Rattle.algebra.specs.Series.{constant}
 use Rattle.algebra.specs.Lists.{coefficients, IsListOf}
 use Rattle.algebra.specs.Binomials.{has_bits}
-use Rattle.algebra.specs.Bivariate.{Bivariate, IsWithin, weight, raised, shift_of}
+use Rattle.algebra.specs.Bivariate.{Bivariate, weight, raised, shift_of}
 use Rattle.algebra.proofs.Laws.{times_nil, nil_times, times_unit, plus_nil}
 use Rattle.algebra.proofs.Sums.{sum_none, sum_next, sum_same, sum_zero, sum_only, power_none}
 use Rattle.algebra.proofs.Series.{series}
@@ -49,6 +49,13 @@ products_within n h s d l k p = elim (cases_lt 0 n) [
       let rows : h * ((n - 1) * s) ≡ 0 = ap (λ t. t * ((n - 1) * s)) first ∙ omega arith in
       omega arith
 ]
+
+-- the products of one row more, up to t
+pub more_products : (old before now n h t : ℕ) → before ≤ old + (n + h * t) → now ≤ before + t → now ≤ old + (n + (h + 1) * t)
+more_products old before now n h t l k = let next : (h + 1) * t ≡ h * t + t = omega arith in omega arith
+
+pub last_products : (old now n h s d : ℕ) → h ≤ n → n ≤ d → 0 < s → now ≤ old + (n + h * ((n - 1) * s)) → now ≤ old + s * (d * d)
+last_products old now n h s d l k p m = omega (arith, products_within n h s d l k p)
 
 -- up to s products for each of fewer than n rows
 pub row_products : (now old j n s : ℕ) → now + s ≤ old + j * s → j ≤ n → 0 < n → now ≤ old + (n - 1) * s

@@ -1,4 +1,4 @@
-use Rattle.std.proofs.Common.{◌≡◌, ◌+◌, ℕ, suc, length, sym, ap, subst, ◌∙◌, arith}
+use Rattle.std.proofs.Common.{◌≡◌, ◌+◌, suc, length, sym, ap, subst, ◌∙◌, arith}
 use Rattle.algebra.specs.Sums.{power}
 use Rattle.algebra.proofs.Sums.{power_none, power_next}
 use Rattle.uni_poly.proofs.Filling.{IsFilled, filled_push}

@@ -1,4 +1,4 @@
-use Rattle.std.proofs.Common.{◌≡◌, ◌+◌, ◌-◌, ◌*◌, ◌<◌, ◌≤◌, ℕ, if◌then◌else◌, List, length, sym, ap, ap₂, ◌∙◌, arith}
+use Rattle.std.proofs.Common.{◌≡◌, ◌+◌, ◌-◌, ◌*◌, ◌≤◌, ℕ, if◌then◌else◌, List, length, sym, ap, ◌∙◌, arith}
 use Rattle.algebra.specs.Binomials.{has_bits}
 use Rattle.algebra.specs.Lists.{coefficients, IsListOf}
 use Rattle.uni_poly.proofs.Filling.{read_at}
