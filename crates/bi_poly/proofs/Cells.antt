@@ -1,29 +1,18 @@
 -- From rows of coefficients to the polynomial that they stand for.
-use Rattle.std.proofs.Common.{◌≡◌, ◌≢◌, ◌⊎◌, inl, inr, ℕ, zero, suc, ◌+◌, ◌<◌, ◌==◌, if◌then◌else◌, Bool, true, false, cond, List, [], ◌∷◌, None, Some, get_or, set, length, refl, sym, ◌∙◌, ap, ap₂, subst, arith}
+use Rattle.std.proofs.Common.{◌≡◌, ◌≢◌, ◌⊎◌, inl, inr, ℕ, zero, suc, ◌+◌, ◌<◌, ◌≤◌, ◌==◌, if◌then◌else◌, Bool, true, false, cond, List, [], ◌∷◌, None, Some, get_or, set, length, refl, sym, ◌∙◌, ap, ap₂, subst, arith}
 use Rattle.std.specs.declared.option.Option.{Option}
 use Rattle.std.specs.Option.{unwrap_or}
 use Rattle.std.specs.Ordering.{eq_by_cmp}
-use Rattle.std.specs.Cmp.{IsTotalOrder, nat_cmp_total}
-use Rattle.std.specs.FinMap.{get, find, empty, insert, remove, get-from_entries, get-insert, get-remove, same_map, IsAntisymmetric}
-use Rattle.std.proofs.lemmas.Cmp.{then_total, on_total}
+use Rattle.std.specs.FinMap.{get, find, from_entries, empty, insert, remove, get-from_entries, get-empty, get-insert, get-remove, same_map}
 use Rattle.std.proofs.lemmas.Bool.{cases_lt, cases_eq}
 use Rattle.std.proofs.lemmas.List.{get_or-set_same, get_or-set_other, length-set}
 use Rattle.std.proofs.lemmas.Bool.Decides.{eqb_tells, nat_tests}
 use Rattle.algebra.specs.Ring.{Ring}
 use Rattle.algebra.specs.Lists.{coefficients}
 use Rattle.algebra.specs.Bivariate.{Bivariate, pair_cmp, coefficient, IsProper, IsWithin}
-use Rattle.bi_poly.specs.Rows.{cell, row_entries, entries_from, polynomial_of, AreLimited}
+use Rattle.algebra.proofs.Entries.{pair_total, pair_same}
+use Rattle.bi_poly.specs.Rows.{row_at, cell, row_entries, entries_from, polynomial_of, AreLimited}
 use Rattle.bi_poly.specs.Results.{kept, IsMapOf, with_coefficient}
-
-pub pair_total : IsTotalOrder pair_cmp
-pair_total = then_total (on_total (λ p. p.0) nat_cmp_total) (on_total (λ p. p.1) nat_cmp_total)
-
--- only equal pairs tie
-pub pair_same : IsAntisymmetric pair_cmp
-pair_same p q e =
-    let x : p.0 ≡ q.0 = grind (arith, nat_tests) in
-    let y : p.1 ≡ q.1 = grind (arith, nat_tests) in
-    λ i. (x i, y i)
 
 pub keys_apart_y : (a b i j : ℕ) → b ≢ j → eq_by_cmp pair_cmp (a, b) (i, j) ≡ false
 keys_apart_y a b i j h = grind (arith, nat_tests)

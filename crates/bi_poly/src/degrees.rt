@@ -2,7 +2,7 @@
 
 ghost use Rattle.std.specs.Prelude.{◌≡◌, ◌≢◌, ◌⊎◌, ◌↔◌, ℕ, ◌+◌, ◌*◌, ◌<◌, ◌≤◌, length, IsNone, IfSome};
 ghost use Rattle.std.specs.FinMap.{empty};
-ghost use Rattle.algebra.specs.Bivariate.{greatest, weight_by, y_power};
+ghost use Rattle.algebra.specs.Bivariate.{greatest, weight_by, x_power, y_power};
 ghost use Rattle.algebra.specs.Lists.{coefficients};
 
 use crate::bivariate::BiPoly;
@@ -17,6 +17,14 @@ impl<F: Field> BiPoly<F> {
         ensures some { IfSome result (λ d. d ≡ greatest y_power self.now) }
     {
         height(&self.rows).checked_sub(1)
+    }
+
+    /// The greatest power of x; none for the zero polynomial.
+    pub fn x_degree(&self) -> Option<usize>
+        ensures none { IsNone result ↔ (self.now ≡ empty) }
+        ensures some { IfSome result (λ d. d ≡ greatest x_power self.now) }
+    {
+        self.weighted_degree(0)
     }
 
     /// The greatest i + w j of the terms x^i y^j; none for the zero polynomial.

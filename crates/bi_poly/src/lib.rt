@@ -10,5 +10,7 @@ mod rows;
 mod shifting;
 mod stripping;
 mod substitution;
+#[cfg(test)]
+mod tests;
 
 pub use bivariate::BiPoly;

@@ -69,6 +69,7 @@ fn add_rows<F: Field, P: Ledger>(
     ensures sums { (i j : ℕ) → j < count → cell F.ring rows.new.items i j ≡ F.ring.plus (cell F.ring rows.old.items i j) (F.ring.times factor (cell F.ring others.now i j)) }
     ensures same { (i j : ℕ) → count ≤ j → cell F.ring rows.new.items i j ≡ cell F.ring rows.old.items i j }
     ensures products { (most : ℕ → ℕ) → ((i j : ℕ) → most j ≤ i → cell F.ring others.now i j ≡ F.ring.nil) → prods.new ≤ prods.old + total count most }
+    ensures none { count ≡ 0 → prods.new ≡ prods.old }
 {
     'rows: for j in 0..count {
         rows[j].add_shifted(others[j].trimmed(), factor, 0, prods);

@@ -44,6 +44,7 @@ pub(crate) fn eliminate<F: Field, P: Ledger>(
 fn leading<F: Field>(row: &[F]) -> Option<usize>
     ensures none { IsNone result → IsZero F.ring (length row.now) (coefficients F.ring row.now) }
     ensures some { IfSome result (λ column. (column < length row.now) × (coefficients F.ring row.now column ≢ F.ring.nil)) }
+    ensures first { IfSome result (λ column. IsZero F.ring column (coefficients F.ring row.now)) }
 {
     'columns: for (column, entry) in row.iter().enumerate() {
         if *entry != F::zero() {
