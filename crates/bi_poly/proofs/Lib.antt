@@ -4,3 +4,4 @@ pub mod Heights
 pub mod Adding
 pub mod RowDerivatives
 pub mod SubstitutedRows
+pub mod ShiftedRows

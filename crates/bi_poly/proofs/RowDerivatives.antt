@@ -13,7 +13,7 @@ use Rattle.algebra.proofs.Laws.{ring, nil_times}
 use Rattle.algebra.proofs.Sums.{sum_same, sum_scaled, sum_exchange, sum_more}
 use Rattle.algebra.proofs.CoefficientLists.{coefficients_below, trimmed_length}
 use Rattle.algebra.proofs.Entries.{terms_sum, greatest_at}
-use Rattle.bi_poly.specs.Rows.{cell, polynomial_of}
+use Rattle.bi_poly.specs.Rows.{cell, polynomial_of, AreLimited}
 use Rattle.bi_poly.proofs.Cells.{coefficient_cell, get_nonzero, nonzero_get, zero_cell}
 
 -- more terms
@@ -114,3 +114,26 @@ module _ {F : Type 0} (R : Ring F) (number : F → ℕ) (nil_is : number R.nil �
           absurd (found.1 (zero_cell R number nil_is same rows (e ∙ z) found.0 (height - 1)))
       | inr l ↦ omega arith
     ]
+
+-- so many rows stand up to the last that is not zero
+pub record IsHeight {F : Type 0} (R : Ring F) (rows : List (List F)) (q : Bivariate F) (height : ℕ) : Type 0 where
+  pub zeros : (i j : ℕ) → height ≤ j → cell R rows i j ≡ R.nil
+  pub most : height ≤ greatest y_power q + 1
+  pub low : height ≤ 4096
+  pub none : q ≡ empty → height ≡ 0
+
+module _ {F : Type 0} (R : Ring F) (number : F → ℕ) (nil_is : number R.nil ≡ 0) (same : (x y : F) → number x ≡ number y → x ≡ y)
+    (rows : List (List F)) (q : Bivariate F) (e : polynomial_of number rows ≡ q) where
+  pub height_of : AreLimited R rows → (slice : List (List F)) → slice ≡ rows → (height : ℕ) → ((i j : ℕ) → height ≤ j → cell R slice i j ≡ R.nil)
+      → ((j : ℕ) → height ≡ j + 1 → (i : ℕ) × (cell R slice i j ≢ R.nil)) → IsHeight R rows q height
+  height_of limits slice f height zeros last =
+      let found : (j : ℕ) → height ≡ j + 1 → (i : ℕ) × (cell R rows i j ≢ R.nil) = λ j h. subst (λ (t : List (List F)). (i : ℕ) × (cell R t i j ≢ R.nil)) f (last j h) in
+      record {
+        zeros = λ i j l. ap (λ t. cell R t i j) (sym f) ∙ zeros i j l;
+        most = height_most R number nil_is same rows q e height found;
+        low = elim (cases_lt 4096 height) [
+          | inl l ↦ let here : (i : ℕ) × (cell R rows i (height - 1) ≢ R.nil) = found (height - 1) (omega arith) in absurd (here.1 (limits.y here.0 (height - 1) (omega arith)))
+          | inr l ↦ l
+        ];
+        none = no_height R number nil_is same rows q e height found;
+      }

@@ -1,17 +1,17 @@
 -- Polynomials put in place of y, row by row.
-use Rattle.std.proofs.Common.{◌≡◌, inl, inr, ℕ, suc, ◌+◌, ◌<◌, ◌≤◌, List, [], length, sym, ◌∙◌, ap, ap₂, arith}
+use Rattle.std.proofs.Common.{◌≡◌, ℕ, suc, ◌<◌, ◌≤◌, List, [], length, sym, ◌∙◌, ap, ap₂, arith}
 use Rattle.std.proofs.lemmas.List.{get_or_past}
 use mathlib.Core.Path.{fun_ext}
 use Rattle.algebra.specs.Ring.{Ring}
 use Rattle.algebra.specs.Series.{product}
 use Rattle.algebra.specs.Lists.{coefficients, IsListOf}
-use Rattle.algebra.specs.Bivariate.{Bivariate, greatest, x_power, substituted}
+use Rattle.algebra.specs.Bivariate.{Bivariate, substituted}
 use Rattle.algebra.proofs.Series.{series}
 use Rattle.algebra.proofs.Nested.{nested}
 use Rattle.algebra.proofs.Derivatives.{column}
 use Rattle.algebra.proofs.Substitution.{substituted_is}
 use Rattle.algebra.proofs.Horner.{nested_from, nested_from-end, nested_from-step, nested_from-front}
-use Rattle.bi_poly.specs.Rows.{row_at, cell, polynomial_of}
+use Rattle.bi_poly.specs.Rows.{cell, polynomial_of}
 use Rattle.bi_poly.proofs.RowDerivatives.{coefficient_is, rows_within}
 
 module _ {F : Type 0} (R : Ring F) where

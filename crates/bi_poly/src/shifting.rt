@@ -68,6 +68,7 @@ fn shifted_row<F: Field, P: Ledger>(
 ) -> Result<Row<F>, AllocError>
     requires inside { h < length powers.now }
     requires rows { length powers.now ≤ length rows.now }
+    requires low { length powers.now ≤ 4096 }
     requires limit { (i j : ℕ) → 65536 ≤ i → cell F.ring rows.now i j ≡ F.ring.nil }
     ensures before { IfOk result (λ row. (k : ℕ) → k < h → coefficients F.ring row k ≡ F.ring.nil) }
     ensures from { (g : F) → ArePowers F.ring g powers.now → IfOk result (λ row. (k : ℕ) →
@@ -86,7 +87,8 @@ fn raised<F: Field>(alloc: Global, coefs: &[F], at: usize) -> Result<Row<F>, All
     ensures before { IfOk result (λ row. (k : ℕ) → k < at → coefficients F.ring row k ≡ F.ring.nil) }
     ensures from { IfOk result (λ row. (k : ℕ) → coefficients F.ring row (at + k) ≡ coefficients F.ring coefs.now k) }
 {
-    let mut row = vec![in alloc; F::zero(); at]?;
+    let mut row = Vec::new(alloc);
+    row.resize(at, F::zero())?;
     row.extend_from_slice(coefs)?;
     Ok(Row::over(row))
 }

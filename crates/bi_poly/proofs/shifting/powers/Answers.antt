@@ -1,17 +1,29 @@
-use Rattle.std.proofs.Common.{rules, ◌≡◌, ◌≢◌, ℕ, ◌+◌, ◌-◌, ◌*◌, ◌<◌, ◌≤◌, if◌then◌else◌, length, IfOk, OnOk, ◌/◌, ◌%◌, Bool, true, false, nat_eq, nat_lt, List, [], ◌∷◌, ◌++◌, slice_index_or, slice_set, bit_and, bit_or, Fits, w8, w32, w64, Bor, MutBor}
-use Rattle.algebra.specs.Binomials.{has_bits}
-use Rattle.std.specs.FinMap.{empty}
-use Rattle.algebra.specs.Bivariate.{greatest, shift_of, weight, x_power, y_power}
-use Rattle.algebra.specs.Lists.{coefficients}
-use Rattle.algebra.specs.Sums.{power, sum_below}
-use Rattle.bi_poly.specs.Results.{IsMapOf}
-use Rattle.bi_poly.specs.Rows.{ArePowers, cell}
+use Rattle.std.proofs.Common.{◌≡◌, ◌+◌, suc, length, sym, ap, subst, ◌∙◌, arith}
+use Rattle.algebra.specs.Sums.{power}
+use Rattle.algebra.proofs.Sums.{power_none, power_next}
+use Rattle.uni_poly.proofs.Filling.{IsFilled, filled_push}
 use Rattle.bi_poly.proofs.shifting.powers.Goals as goal
 
--- src/shifting.rt:54:5
-pub powers-init : goal.powers-init
-powers-init g c = ?
-
--- src/shifting.rt:54:5
 pub powers-preserved : goal.powers-preserved
-powers-preserved g c = ?
+powers-preserved g c =
+    let R = g.F.Field.ring in
+    let more : suc c.powers._k ≡ c.powers._k + 1 = omega arith in
+    record {
+      filled =
+          subst (IsFilled R (λ k. power R c.args.g k) (c.powers._k + 1)) (sym c.in_ok-push.ensures.items)
+          (filled_push R (λ k. power R c.args.g k) c.powers._k c.powers.powers.items c.powers.power c.powers.invariant.filled c.powers.invariant.next);
+      next =
+          c.mul-power.ensures.value
+          ∙ R.times_comm c.powers.power c.args.g
+          ∙ ap (λ t. R.times c.args.g t) c.powers.invariant.next
+          ∙ sym (power_next R c.args.g c.powers._k)
+          ∙ ap (power R c.args.g) more;
+      products = omega (arith, c.mul-power.ensures.ticks);
+    }
+
+pub powers-init : goal.powers-init
+powers-init g c = record {
+  filled = record { count = ap length c.in_ok-powers.ensures.items; each = λ k l. absurd (omega arith) };
+  next = c.one-power.ensures ∙ sym (power_none g.F.Field.ring c.args.g);
+  products = omega arith;
+}

@@ -7,7 +7,7 @@ use Rattle.algebra.specs.Roots.{total}
 use Rattle.algebra.specs.Sums.{sum_below}
 use Rattle.algebra.proofs.Horner.{nested_from, nested_from-end, nested_from-step, nested_from-stop, nested_from-weights}
 use Rattle.bi_poly.specs.Rows.{cell}
-use Rattle.bi_poly.proofs.RowDerivatives.{row_derivative, total_more, derivative_rows, x_end, row_end, height_most, no_height}
+use Rattle.bi_poly.proofs.RowDerivatives.{row_derivative, total_more, derivative_rows, x_end, row_end, IsHeight, height_of}
 use Rattle.bi_poly.proofs.bivariate.BiPoly.hasse.Goals as goal
 
 pub rows-init : goal.rows-init
@@ -64,32 +64,33 @@ returns-clause-value g c =
     let h : ℕ = c.height-height.result in
     let m : ℕ = greatest x_power q + 1 in
     let p : ℕ → g.row.F.Denot = row_derivative R rows m c.args.a c.args.u in
-    let zeros : (i j : ℕ) → h ≤ j → cell R rows i j ≡ R.nil = λ i j l.
-    ap (λ (t : List (List g.row.F.Denot)). cell R t i j) (sym c.deref.ensures.value) ∙ c.height-height.ensures.zeros i j l in
+    let height : IsHeight R rows q h =
+    height_of R g.F.Field.number met.number_nil met.same rows q c.self.view_is c.self.invariant c.deref.result.now c.deref.ensures.value h c.height-height.ensures.zeros c.height-height.ensures.last in
     c.rows.invariant.value
     ∙ nested_from-stop R h (λ j. if has_bits j c.args.v then p j else R.nil) c.args.b c.rows.j c.args.v (omega arith) c.rows.invariant.place
     ∙ nested_from-weights R h c.args.v p c.args.b
     ∙ sym (derivative_rows R g.F.Field.number met.number_nil met.same rows q c.self.view_is m h c.args.u c.args.v c.args.a c.args.b
-    (x_end R g.F.Field.number met.number_nil met.same rows q c.self.view_is met.field.decided) zeros)
+    (x_end R g.F.Field.number met.number_nil met.same rows q c.self.view_is met.field.decided) height.zeros)
 
 pub returns-clause-products : goal.returns-clause-products
 returns-clause-products g c =
     let R = g.F.Field.ring in
     let met = g.met.F.Field in
+    let rows : List (List g.row.F.Denot) = c.self.inside.rows.items in
     let q : Bivariate g.row.F.Denot = c.args.self.now in
     let h : ℕ = c.height-height.result in
     let f : ℕ → ℕ = λ k. greatest (x_power_at k) q + 2 in
-    let last : (j : ℕ) → h ≡ j + 1 → (i : ℕ) × (cell R c.self.inside.rows.items i j ≢ R.nil) = λ j e.
-    subst (λ (t : List (List g.row.F.Denot)). (i : ℕ) × (cell R t i j ≢ R.nil)) c.deref.ensures.value (c.height-height.ensures.last j e) in
-    let most : h ≤ greatest y_power q + 1 = height_most R g.F.Field.number met.number_nil met.same c.self.inside.rows.items q c.self.view_is h last in
-    let all : total h f ≤ total (greatest y_power q + 1) f = total_more h (greatest y_power q + 1) f most in
+    let height : IsHeight R rows q h =
+    height_of R g.F.Field.number met.number_nil met.same rows q c.self.view_is c.self.invariant c.deref.result.now c.deref.ensures.value h c.height-height.ensures.zeros c.height-height.ensures.last in
+    let all : total h f ≤ total (greatest y_power q + 1) f = total_more h (greatest y_power q + 1) f height.most in
     omega (arith, c.rows.invariant.products)
 
 pub returns-clause-none : goal.returns-clause-none
 returns-clause-none g c z =
     let R = g.F.Field.ring in
     let met = g.met.F.Field in
-    let h : ℕ = c.height-height.result in
-    let last : (j : ℕ) → h ≡ j + 1 → (i : ℕ) × (cell R c.self.inside.rows.items i j ≢ R.nil) = λ j e.
-    subst (λ (t : List (List g.row.F.Denot)). (i : ℕ) × (cell R t i j ≢ R.nil)) c.deref.ensures.value (c.height-height.ensures.last j e) in
-    c.rows.invariant.none (no_height R g.F.Field.number met.number_nil met.same c.self.inside.rows.items c.args.self.now c.self.view_is h last z)
+    let rows : List (List g.row.F.Denot) = c.self.inside.rows.items in
+    let height : IsHeight R rows c.args.self.now c.height-height.result =
+    height_of R g.F.Field.number met.number_nil met.same rows c.args.self.now c.self.view_is c.self.invariant c.deref.result.now c.deref.ensures.value c.height-height.result
+    c.height-height.ensures.zeros c.height-height.ensures.last in
+    c.rows.invariant.none (height.none z)
