@@ -112,7 +112,7 @@ module _ {F : Type 0} (R : Ring F) where
       → IsListOf R (λ k. cell R rows k j) list
   trimmed_row rows j row list l e is = list_same R (coefficients R row) (λ k. cell R rows k j) list (λ k. ap (λ t. coefficients R t k) (e ∙ get_or_default rows j row [] l)) is
 
-  -- are no more than powers of x
+  -- of which there are no more than powers of x
   pub trimmed_short : (rows : List (List F)) (j m : ℕ) (list : List F) → IsListOf R (λ k. cell R rows k j) list → ((a b : ℕ) → m ≤ a → cell R rows a b ≡ nil) → length list ≤ m
   trimmed_short rows j m list is x = trimmed_length R m list is.trimmed (λ k l. is.each k ∙ x k j l)
 
