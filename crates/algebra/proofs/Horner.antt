@@ -82,7 +82,7 @@ module _ {F : Type 0} (R : Ring F) where
   open R use {nil, unit, plus as ◌⊕◌, times as ◌⊗◌}
 
   -- terms that are zero at the front count for nothing
-  pub sum_from : (u n : ℕ) (f : ℕ → F) → ((i : ℕ) → i < u → f i ≡ nil) → sum_below R n f ≡ sum_below R (n - u) (λ k. f (u + k))
+  sum_from : (u n : ℕ) (f : ℕ → F) → ((i : ℕ) → i < u → f i ≡ nil) → sum_below R n f ≡ sum_below R (n - u) (λ k. f (u + k))
   sum_from zero n f h =
       let count : n ≡ n - 0 = omega arith in
       let place : (k : ℕ) → k ≡ 0 + k = λ k. omega arith in

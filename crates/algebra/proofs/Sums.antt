@@ -45,6 +45,15 @@ module _ {F : Type 0} (R : Ring F) where
   sum_scaled zero x f = simp (sum_none, ring)
   sum_scaled (suc n) x f = simp (sum_next, sum_scaled n x (λ i. f (suc i)), ring)
 
+  -- the last term
+  pub sum_last : (n : ℕ) (f : ℕ → F) → sum_below R (suc n) f ≡ sum_below R n f ⊕ f n
+  sum_last zero f = sum_next 0 f ∙ R.plus_comm (f 0) (sum_below R 0 (λ i. f (suc i))) ∙ ap (λ t. t ⊕ f 0) (sum_none (λ i. f (suc i)) ∙ sym (sum_none f))
+  sum_last (suc n) f =
+      sum_next (suc n) f
+      ∙ ap (λ t. f 0 ⊕ t) (sum_last n (λ i. f (suc i)))
+      ∙ sym (R.plus_assoc (f 0) (sum_below R n (λ i. f (suc i))) (f (suc n)))
+      ∙ ap (λ t. t ⊕ f (suc n)) (sym (sum_next n f))
+
   -- two sums change places
   pub sum_exchange : (m n : ℕ) (f : ℕ → ℕ → F) → sum_below R m (λ i. sum_below R n (λ j. f i j)) ≡ sum_below R n (λ j. sum_below R m (λ i. f i j))
   sum_exchange zero n f =

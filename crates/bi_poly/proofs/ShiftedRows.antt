@@ -1,5 +1,5 @@
 -- The rows of Q(x, x y + g), and how many products they take.
-use Rattle.std.proofs.Common.{◌≡◌, ◌≢◌, inl, inr, ℕ, zero, suc, ◌+◌, ◌-◌, ◌*◌, ◌<◌, ◌≤◌, true, false, List, [], ◌∷◌, ◌++◌, length, get_or, refl, sym, ◌∙◌, ap, ap₂, arith}
+use Rattle.std.proofs.Common.{◌≡◌, ◌≢◌, inl, inr, ℕ, zero, suc, ◌+◌, ◌-◌, ◌*◌, ◌<◌, ◌≤◌, true, false, List, [], ◌∷◌, ◌++◌, length, get_or, refl, sym, ◌∙◌, ap, ap₂, subst, arith}
 use Rattle.std.specs.Prelude.{Bool, if◌then◌else◌}
 use Rattle.std.specs.FinMap.{empty}
 use Rattle.std.proofs.lemmas.Bool.{cases_lt}
@@ -13,9 +13,9 @@ use Rattle.algebra.specs.Sums.{sum_below, power}
 use Rattle.algebra.specs.Series.{constant}
 use Rattle.algebra.specs.Lists.{coefficients, IsListOf}
 use Rattle.algebra.specs.Binomials.{has_bits}
-use Rattle.algebra.specs.Bivariate.{Bivariate, weight, raised, shift_of}
+use Rattle.algebra.specs.Bivariate.{Bivariate, greatest, y_power, weight, raised, shift_of}
 use Rattle.algebra.proofs.Laws.{times_nil, nil_times, times_unit, plus_nil}
-use Rattle.algebra.proofs.Sums.{sum_none, sum_next, sum_same, sum_zero, sum_only, power_none}
+use Rattle.algebra.proofs.Sums.{sum_last, sum_same, sum_zero, sum_only, power_none}
 use Rattle.algebra.proofs.Series.{series}
 use Rattle.algebra.proofs.CoefficientLists.{trimmed_length}
 use Rattle.algebra.proofs.Shift.{shifted}
@@ -28,11 +28,39 @@ use Rattle.algebra.proofs.Horner.{weight_low}
 use Rattle.bi_poly.specs.Rows.{cell, polynomial_of, AreLimited, ArePowers}
 use Rattle.bi_poly.specs.Results.{IsMapOf}
 use Rattle.bi_poly.proofs.Cells.{map_of, zero_cell, zero_polynomial}
+use Rattle.bi_poly.proofs.Heights.{IsHeight, height_degree, empty_height}
 use Rattle.bi_poly.proofs.RowDerivatives.{coefficient_is, rows_within}
 use Rattle.bi_poly.proofs.SubstitutedRows.{cell_past, list_same}
 
+-- n rows stand up to the last that is not zero
+pub record IsRowCount {F : Type 0} (R : Ring F) (rows : List (List F)) (q : Bivariate F) (n : ℕ) : Type 0 where
+  pub zeros : (i j : ℕ) → n ≤ j → cell R rows i j ≡ R.nil
+  pub most : n ≤ greatest y_power q + 1
+  pub low : n ≤ 4096
+  pub none : q ≡ empty → n ≡ 0
+
+pub row_count : {F : Type 0} (R : Ring F) (number : F → ℕ) (nil_is : number R.nil ≡ 0) (same : (x y : F) → number x ≡ number y → x ≡ y) (rows : List (List F)) (q : Bivariate F)
+    → polynomial_of number rows ≡ q → AreLimited R rows → (slice : List (List F)) → slice ≡ rows → (n : ℕ) → IsHeight R slice n → IsRowCount R rows q n
+row_count {F} R number nil_is same rows q e limits slice f n height = record {
+  zeros = tall.zeros;
+  most = elim (cases_lt 0 n) [
+    | inl l ↦
+        let degree : n - 1 ≡ greatest y_power q = height_degree R number nil_is same rows n (n - 1) tall (omega arith) ∙ ap (greatest y_power) e in
+        omega arith
+    | inr l ↦ omega arith
+  ];
+  low = elim (cases_lt 4096 n) [
+    | inl l ↦ let last : (i : ℕ) × (cell R rows i (n - 1) ≢ R.nil) = tall.last (n - 1) (omega arith) in absurd (last.1 (limits.y last.0 (n - 1) (omega arith)))
+    | inr l ↦ l
+  ];
+  none = λ z. empty_height R number nil_is same rows n tall (e ∙ z);
+}
+  where
+    tall : IsHeight R rows n
+    tall = subst (λ t. IsHeight R t n) f height
+
 -- n powers, and for each of h rows up to n - 1 times up to s products
-pub products_within : (n h s d : ℕ) → h ≤ n → n ≤ d → 0 < s → n + h * ((n - 1) * s) ≤ s * (d * d)
+products_within : (n h s d : ℕ) → h ≤ n → n ≤ d → 0 < s → n + h * ((n - 1) * s) ≤ s * (d * d)
 products_within n h s d l k p = elim (cases_lt 0 n) [
   | inl o ↦
       let last : n ≡ (n - 1) + 1 = omega arith in
@@ -51,11 +79,20 @@ products_within n h s d l k p = elim (cases_lt 0 n) [
 ]
 
 -- the products of one row more, up to t
-pub more_products : (old before now n h t : ℕ) → before ≤ old + (n + h * t) → now ≤ before + t → now ≤ old + (n + (h + 1) * t)
+more_products : (old before now n h t : ℕ) → before ≤ old + (n + h * t) → now ≤ before + t → now ≤ old + (n + (h + 1) * t)
 more_products old before now n h t l k = let next : (h + 1) * t ≡ h * t + t = omega arith in omega arith
 
 pub last_products : (old now n h s d : ℕ) → h ≤ n → n ≤ d → 0 < s → now ≤ old + (n + h * ((n - 1) * s)) → now ≤ old + s * (d * d)
 last_products old now n h s d l k p m = omega (arith, products_within n h s d l k p)
+
+-- the products of a row that was made from a slice of the rows and one of the powers
+pub row_taken : {F : Type 0} (R : Ring F) (rows slice : List (List F)) → slice ≡ rows → (powers list : List F) → list ≡ powers
+    → (m : ℕ) → ((i j : ℕ) → m ≤ i → cell R rows i j ≡ R.nil) → (old before now h : ℕ) → before ≤ old + (length powers + h * ((length powers - 1) * m))
+    → ((most : ℕ) → ((i j : ℕ) → most ≤ i → cell R slice i j ≡ R.nil) → now ≤ before + (length list - 1) * most)
+    → now ≤ old + (length powers + (h + 1) * ((length powers - 1) * m))
+row_taken R rows slice e powers list f m past old before now h so_far row =
+    more_products old before now (length powers) h ((length powers - 1) * m) so_far
+    (subst (λ t. now ≤ before + (length t - 1) * m) f (row m (λ i j l. ap (λ t. cell R t i j) e ∙ past i j l)))
 
 -- up to s products for each of fewer than n rows
 pub row_products : (now old j n s : ℕ) → now + s ≤ old + j * s → j ≤ n → 0 < n → now ≤ old + (n - 1) * s
@@ -75,18 +112,9 @@ module _ {F : Type 0} (R : Ring F) where
       → IsListOf R (λ k. cell R rows k j) list
   trimmed_row rows j row list l e is = list_same R (coefficients R row) (λ k. cell R rows k j) list (λ k. ap (λ t. coefficients R t k) (e ∙ get_or_default rows j row [] l)) is
 
-  -- are no more than powers of x
+  -- of which there are no more than powers of x
   pub trimmed_short : (rows : List (List F)) (j m : ℕ) (list : List F) → IsListOf R (λ k. cell R rows k j) list → ((a b : ℕ) → m ≤ a → cell R rows a b ≡ nil) → length list ≤ m
   trimmed_short rows j m list is x = trimmed_length R m list is.trimmed (λ k l. is.each k ∙ x k j l)
-
-  -- the last term of a sum
-  pub sum_last : (n : ℕ) (f : ℕ → F) → sum_below R (suc n) f ≡ sum_below R n f ⊕ f n
-  sum_last zero f = sum_next R 0 f ∙ R.plus_comm (f 0) (sum_below R 0 (λ i. f (suc i))) ∙ ap (λ t. t ⊕ f 0) (sum_none R (λ i. f (suc i)) ∙ sym (sum_none R f))
-  sum_last (suc n) f =
-      sum_next R (suc n) f
-      ∙ ap (λ t. f 0 ⊕ t) (sum_last n (λ i. f (suc i)))
-      ∙ sym (R.plus_assoc (f 0) (sum_below R n (λ i. f (suc i))) (f (suc n)))
-      ∙ ap (λ t. t ⊕ f (suc n)) (sym (sum_next R n f))
 
   weight_same : (x : F) (h : ℕ) → weight R x h h ≡ unit
   weight_same x zero = weight_first R x 0 ∙ power_none R x
@@ -121,7 +149,7 @@ module _ {F : Type 0} (R : Ring F) where
         | true ↦ ap₂ (λ (s t : F). s ⊗ t) value f ∙ R.times_comm (power R g (j - h)) (cell R rows k j)
         | false ↦ sym (times_nil R (cell R rows k j))
       ])
-      ∙ sym (sum_last j (λ t. cell R rows k t ⊗ weight R g t h))
+      ∙ sym (sum_last R j (λ t. cell R rows k t ⊗ weight R g t h))
       ∙ ap (λ t. row_sum rows t g h k) next
 
   -- no power of y as great as the number of rows

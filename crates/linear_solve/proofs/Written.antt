@@ -1,5 +1,5 @@
 -- How elimination's rows make up the rows that were.
-use Rattle.std.proofs.Common.{◌≡◌, inl, inr, ℕ, zero, suc, ◌+◌, ◌<◌, ◌≤◌, List, [], ◌∷◌, ◌++◌, length, get_or, map, refl, sym, ◌∙◌, ap, ap₂, subst, arith}
+use Rattle.std.proofs.Common.{◌≡◌, inl, inr, ℕ, suc, ◌+◌, ◌<◌, ◌≤◌, List, [], ◌∷◌, ◌++◌, length, get_or, map, refl, sym, ◌∙◌, ap, ap₂, subst, arith}
 use Rattle.std.proofs.Math.Seq.{get_or-append_seam}
 use Rattle.std.proofs.lemmas.Bool.{cases_lt}
 use Rattle.std.proofs.lemmas.Bool.Decides.{eqb_tells}
@@ -9,7 +9,7 @@ use Rattle.algebra.specs.Lists.{coefficients}
 use Rattle.algebra.specs.Sums.{sum_below}
 use Rattle.system_terms.specs.Systems.{IsZero, IsRank}
 use Rattle.algebra.proofs.Laws.{ring}
-use Rattle.algebra.proofs.Sums.{sum_none, sum_next, sum_same}
+use Rattle.algebra.proofs.Sums.{sum_none, sum_last, sum_same}
 use Rattle.linear_solve.specs.Tables.{entries, cleared, HaveLength}
 use Rattle.linear_solve.specs.Pivots.{ArePivots, rows_of, columns_of, inverses_of}
 use Rattle.linear_solve.specs.declared.pivot.Pivot.{Pivot}
@@ -36,15 +36,6 @@ module _ {F : Type 0} (R : Ring F) where
   infixl 60 ◌⊕◌
   infixl 70 ◌⊗◌
   open R use {nil, unit, plus as ◌⊕◌, times as ◌⊗◌}
-
-  -- one more term at the end of a sum
-  pub sum_last : (n : ℕ) (f : ℕ → F) → sum_below R (suc n) f ≡ sum_below R n f ⊕ f n
-  sum_last zero f = sum_next R 0 f ∙ ap₂ (λ (s t : F). s ⊕ t) refl (sum_none R (λ i. f (suc i))) ∙ R.plus_comm (f 0) nil ∙ ap (λ t. t ⊕ f 0) (sym (sum_none R f))
-  sum_last (suc n) f =
-      sum_next R (suc n) f
-      ∙ ap (λ t. f 0 ⊕ t) (sum_last n (λ i. f (suc i)))
-      ∙ sym (R.plus_assoc (f 0) (sum_below R n (λ i. f (suc i))) (f (suc n)))
-      ∙ ap (λ t. t ⊕ f (suc n)) (sym (sum_next R n f))
 
   -- past the last row all entries are zero
   pub entry_past : (rows : List (List F)) (i k : ℕ) → length rows ≤ i → entries R rows i k ≡ nil
@@ -134,7 +125,7 @@ module _ {F : Type 0} (R : Ring F) where
       let term : ℕ → ℕ → ℕ → F = λ i k j. entries R factors j i ⊗ entries R (rows_of (pivots ++ p ∷ [])) j k in
       let new_sum : (i k : ℕ) → sum_below R (length (pivots ++ p ∷ [])) (term i k) ≡ old_sum i k ⊕ get_or news i nil ⊗ coefficients R row k = λ i k.
       ap (λ t. sum_below R t (term i k)) (let e : length (pivots ++ p ∷ []) ≡ suc s = omega (arith, pivots_more) in e)
-      ∙ sum_last s (term i k)
+      ∙ sum_last R s (term i k)
       ∙ ap₂ (λ (x y : F). x ⊕ y)
       (sum_same R s (term i k) (λ j. entries R w.factors j i ⊗ entries R (rows_of pivots) j k)
       (λ j l. ap₂ (λ (x y : List F). coefficients R x i ⊗ coefficients R y k) (old_factors j l) (old_row j l)))

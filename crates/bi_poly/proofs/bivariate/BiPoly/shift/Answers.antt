@@ -2,67 +2,76 @@ use Rattle.std.proofs.Common.{◌≡◌, ◌+◌, ◌-◌, ◌*◌, ◌<◌, ◌
 use Rattle.algebra.specs.Bivariate.{Bivariate, greatest, x_power, y_power, weight}
 use Rattle.algebra.specs.Sums.{sum_below}
 use Rattle.bi_poly.specs.Rows.{ArePowers, cell}
-use Rattle.bi_poly.proofs.RowDerivatives.{x_end, IsHeight, height_of}
-use Rattle.bi_poly.proofs.ShiftedRows.{IsShifted, none_shifted, row_shifted, shifted_limits, shifted_value, shifted_nonzero, products_within, more_products, last_products}
+use Rattle.bi_poly.proofs.Heights.{nil_past}
+use Rattle.bi_poly.proofs.ShiftedRows.{IsRowCount, row_count, IsShifted, none_shifted, row_shifted, shifted_limits, shifted_value, shifted_nonzero, last_products, row_taken}
 use Rattle.bi_poly.proofs.bivariate.BiPoly.shift.Goals as goal
 
 pub returns-in_err-powers-clause-products : goal.returns-in_err-powers-clause-products
 returns-in_err-powers-clause-products g c =
+    let R = g.F.Field.ring in
     let met = g.met.F.Field in
     let rows : List (List g.row.F.Denot) = c.self.inside.rows.items in
-    let height : IsHeight g.F.Field.ring rows c.args.self.now c.height.result =
-    height_of g.F.Field.ring g.F.Field.number met.number_nil met.same rows c.args.self.now c.self.view_is c.self.invariant c.deref.result.now c.deref.ensures.value c.height.result
-    c.height.ensures.zeros c.height.ensures.last in
-    let all = products_within c.height.result 0 (greatest x_power c.args.self.now + 1) (greatest y_power c.args.self.now + 1) (omega arith) height.most (omega arith) in
-    omega (arith, c.in_err-powers.ensures.products)
+    let h : ℕ = c.height.result in
+    let count : IsRowCount R rows c.args.self.now h =
+    row_count R g.F.Field.number met.number_nil met.same rows c.args.self.now c.self.view_is c.self.invariant c.deref.result.now c.deref.ensures.value h
+    (record { zeros = c.height.ensures.zeros; last = c.height.ensures.last }) in
+    last_products c.args.prods.now c.powers.new.prods h 0 (greatest x_power c.args.self.now + 1) (greatest y_power c.args.self.now + 1) (omega arith) count.most (omega arith)
+    (omega (arith, c.in_err-powers.ensures.products))
 
 pub returns-in_err-powers-clause-none : goal.returns-in_err-powers-clause-none
 returns-in_err-powers-clause-none g c z =
+    let R = g.F.Field.ring in
     let met = g.met.F.Field in
     let rows : List (List g.row.F.Denot) = c.self.inside.rows.items in
-    let height : IsHeight g.F.Field.ring rows c.args.self.now c.height.result =
-    height_of g.F.Field.ring g.F.Field.number met.number_nil met.same rows c.args.self.now c.self.view_is c.self.invariant c.deref.result.now c.deref.ensures.value c.height.result
-    c.height.ensures.zeros c.height.ensures.last in
-    c.in_err-powers.ensures.none (height.none z)
+    let h : ℕ = c.height.result in
+    let count : IsRowCount R rows c.args.self.now h =
+    row_count R g.F.Field.number met.number_nil met.same rows c.args.self.now c.self.view_is c.self.invariant c.deref.result.now c.deref.ensures.value h
+    (record { zeros = c.height.ensures.zeros; last = c.height.ensures.last }) in
+    c.in_err-powers.ensures.none (count.none z)
 
 pub returns-in_err-rows-clause-products : goal.returns-in_err-rows-clause-products
 returns-in_err-rows-clause-products g c =
+    let R = g.F.Field.ring in
     let met = g.met.F.Field in
     let rows : List (List g.row.F.Denot) = c.self.inside.rows.items in
-    let height : IsHeight g.F.Field.ring rows c.args.self.now c.height.result =
-    height_of g.F.Field.ring g.F.Field.number met.number_nil met.same rows c.args.self.now c.self.view_is c.self.invariant c.deref.result.now c.deref.ensures.value c.height.result
-    c.height.ensures.zeros c.height.ensures.last in
-    let all = products_within c.height.result 0 (greatest x_power c.args.self.now + 1) (greatest y_power c.args.self.now + 1) (omega arith) height.most (omega arith) in
-    omega (arith, c.in_ok-powers.ensures.products)
+    let h : ℕ = c.height.result in
+    let count : IsRowCount R rows c.args.self.now h =
+    row_count R g.F.Field.number met.number_nil met.same rows c.args.self.now c.self.view_is c.self.invariant c.deref.result.now c.deref.ensures.value h
+    (record { zeros = c.height.ensures.zeros; last = c.height.ensures.last }) in
+    last_products c.args.prods.now c.powers.new.prods h 0 (greatest x_power c.args.self.now + 1) (greatest y_power c.args.self.now + 1) (omega arith) count.most (omega arith)
+    (omega (arith, c.in_ok-powers.ensures.products))
 
 pub returns-in_err-rows-clause-none : goal.returns-in_err-rows-clause-none
 returns-in_err-rows-clause-none g c z =
+    let R = g.F.Field.ring in
     let met = g.met.F.Field in
     let rows : List (List g.row.F.Denot) = c.self.inside.rows.items in
-    let height : IsHeight g.F.Field.ring rows c.args.self.now c.height.result =
-    height_of g.F.Field.ring g.F.Field.number met.number_nil met.same rows c.args.self.now c.self.view_is c.self.invariant c.deref.result.now c.deref.ensures.value c.height.result
-    c.height.ensures.zeros c.height.ensures.last in
-    c.in_ok-powers.ensures.none (height.none z)
+    let h : ℕ = c.height.result in
+    let count : IsRowCount R rows c.args.self.now h =
+    row_count R g.F.Field.number met.number_nil met.same rows c.args.self.now c.self.view_is c.self.invariant c.deref.result.now c.deref.ensures.value h
+    (record { zeros = c.height.ensures.zeros; last = c.height.ensures.last }) in
+    c.in_ok-powers.ensures.none (count.none z)
 
 pub rows-init : goal.rows-init
 rows-init g c =
     let R = g.F.Field.ring in
     let met = g.met.F.Field in
     let rows : List (List g.row.F.Denot) = c.self.inside.rows.items in
-    let height : IsHeight g.F.Field.ring rows c.args.self.now c.height.result =
-    height_of g.F.Field.ring g.F.Field.number met.number_nil met.same rows c.args.self.now c.self.view_is c.self.invariant c.deref.result.now c.deref.ensures.value c.height.result
-    c.height.ensures.zeros c.height.ensures.last in
+    let h : ℕ = c.height.result in
+    let count : IsRowCount R rows c.args.self.now h =
+    row_count R g.F.Field.number met.number_nil met.same rows c.args.self.now c.self.view_is c.self.invariant c.deref.result.now c.deref.ensures.value h
+    (record { zeros = c.height.ensures.zeros; last = c.height.ensures.last }) in
     let powers : List g.row.F.Denot = c.in_ok-powers.powers.items in
-    let count : length powers ≡ c.height.result = c.in_ok-powers.ensures.count in
+    let all : length powers ≡ h = c.in_ok-powers.ensures.count in
     record {
-      height = subst (IsHeight R rows c.args.self.now) (sym count) height;
+      count = subst (IsRowCount R rows c.args.self.now) (sym all) count;
       shifted = subst (IsShifted R rows (length powers) c.args.g 0) (sym c.in_ok-rows.ensures.items) (none_shifted R rows (length powers) c.args.g);
       products = omega (arith, c.in_ok-powers.ensures.products);
-      none = λ z. c.in_ok-powers.ensures.none (sym count ∙ z);
+      none = λ z. c.in_ok-powers.ensures.none (sym all ∙ z);
     }
 
 pub shifted_row-requires-clause-low : goal.shifted_row-requires-clause-low
-shifted_row-requires-clause-low g c = omega (arith, ap length c.deref-in-rows-2.ensures.value, c.rows.invariant.height.low)
+shifted_row-requires-clause-low g c = omega (arith, ap length c.deref-in-rows-2.ensures.value, c.rows.invariant.count.low)
 
 pub returns-in_err-shifted_row-clause-products : goal.returns-in_err-shifted_row-clause-products
 returns-in_err-shifted_row-clause-products g c =
@@ -73,17 +82,15 @@ returns-in_err-shifted_row-clause-products g c =
     let q : Bivariate g.row.F.Denot = c.args.self.now in
     let m : ℕ = greatest x_power q + 1 in
     let inside : c.rows.h < length powers = omega (arith, c.len-h-end.ensures ∙ c.in_ok-powers.powers.ok.0) in
-    let past : (i j : ℕ) → m ≤ i → cell R c.deref-in-rows.result.now i j ≡ R.nil = λ i j l.
-    ap (λ (t : List (List g.row.F.Denot)). cell R t i j) c.deref-in-rows.ensures.value ∙ x_end R g.F.Field.number met.number_nil met.same rows q c.self.view_is met.field.decided i j l in
-    let row : c.shifted_row.new.prods ≤ c.rows.prods + (length powers - 1) * m =
-    subst (λ (t : List g.row.F.Denot). c.shifted_row.new.prods ≤ c.rows.prods + (length t - 1) * m) c.deref-in-rows-2.ensures.value (c.shifted_row.ensures.products m past) in
     let now : c.shifted_row.new.prods ≤ c.args.prods.now + (length powers + (c.rows.h + 1) * ((length powers - 1) * m)) =
-    more_products c.args.prods.now c.rows.prods c.shifted_row.new.prods (length powers) c.rows.h ((length powers - 1) * m) c.rows.invariant.products row in
-    last_products c.args.prods.now c.shifted_row.new.prods (length powers) (c.rows.h + 1) m (greatest y_power q + 1) (omega arith) c.rows.invariant.height.most (omega arith) now
+    row_taken R rows c.deref-in-rows.result.now c.deref-in-rows.ensures.value powers c.deref-in-rows-2.result.now c.deref-in-rows-2.ensures.value m
+    (λ i j l. nil_past R g.F.Field.number met.number_nil met.same met.field rows q i j c.self.view_is l)
+    c.args.prods.now c.rows.prods c.shifted_row.new.prods c.rows.h c.rows.invariant.products c.shifted_row.ensures.products in
+    last_products c.args.prods.now c.shifted_row.new.prods (length powers) (c.rows.h + 1) m (greatest y_power q + 1) (omega arith) c.rows.invariant.count.most (omega arith) now
 
 pub returns-in_err-shifted_row-clause-none : goal.returns-in_err-shifted_row-clause-none
 returns-in_err-shifted_row-clause-none g c z =
-    let none : length c.in_ok-powers.powers.items ≡ 0 = c.rows.invariant.height.none z in
+    let none : length c.in_ok-powers.powers.items ≡ 0 = c.rows.invariant.count.none z in
     absurd (omega (arith, c.len-h-end.ensures ∙ c.in_ok-powers.powers.ok.0))
 
 pub returns-in_err-push-clause-products : goal.returns-in_err-push-clause-products
@@ -95,17 +102,15 @@ returns-in_err-push-clause-products g c =
     let q : Bivariate g.row.F.Denot = c.args.self.now in
     let m : ℕ = greatest x_power q + 1 in
     let inside : c.rows.h < length powers = omega (arith, c.len-h-end.ensures ∙ c.in_ok-powers.powers.ok.0) in
-    let past : (i j : ℕ) → m ≤ i → cell R c.deref-in-rows.result.now i j ≡ R.nil = λ i j l.
-    ap (λ (t : List (List g.row.F.Denot)). cell R t i j) c.deref-in-rows.ensures.value ∙ x_end R g.F.Field.number met.number_nil met.same rows q c.self.view_is met.field.decided i j l in
-    let row : c.shifted_row.new.prods ≤ c.rows.prods + (length powers - 1) * m =
-    subst (λ (t : List g.row.F.Denot). c.shifted_row.new.prods ≤ c.rows.prods + (length t - 1) * m) c.deref-in-rows-2.ensures.value (c.shifted_row.ensures.products m past) in
     let now : c.shifted_row.new.prods ≤ c.args.prods.now + (length powers + (c.rows.h + 1) * ((length powers - 1) * m)) =
-    more_products c.args.prods.now c.rows.prods c.shifted_row.new.prods (length powers) c.rows.h ((length powers - 1) * m) c.rows.invariant.products row in
-    last_products c.args.prods.now c.shifted_row.new.prods (length powers) (c.rows.h + 1) m (greatest y_power q + 1) (omega arith) c.rows.invariant.height.most (omega arith) now
+    row_taken R rows c.deref-in-rows.result.now c.deref-in-rows.ensures.value powers c.deref-in-rows-2.result.now c.deref-in-rows-2.ensures.value m
+    (λ i j l. nil_past R g.F.Field.number met.number_nil met.same met.field rows q i j c.self.view_is l)
+    c.args.prods.now c.rows.prods c.shifted_row.new.prods c.rows.h c.rows.invariant.products c.shifted_row.ensures.products in
+    last_products c.args.prods.now c.shifted_row.new.prods (length powers) (c.rows.h + 1) m (greatest y_power q + 1) (omega arith) c.rows.invariant.count.most (omega arith) now
 
 pub returns-in_err-push-clause-none : goal.returns-in_err-push-clause-none
 returns-in_err-push-clause-none g c z =
-    let none : length c.in_ok-powers.powers.items ≡ 0 = c.rows.invariant.height.none z in
+    let none : length c.in_ok-powers.powers.items ≡ 0 = c.rows.invariant.count.none z in
     absurd (omega (arith, c.len-h-end.ensures ∙ c.in_ok-powers.powers.ok.0))
 
 pub rows-preserved : goal.rows-preserved
@@ -117,15 +122,13 @@ rows-preserved g c =
     let q : Bivariate g.row.F.Denot = c.args.self.now in
     let m : ℕ = greatest x_power q + 1 in
     let inside : c.rows.h < length powers = omega (arith, c.len-h-end.ensures ∙ c.in_ok-powers.powers.ok.0) in
-    let past : (i j : ℕ) → m ≤ i → cell R c.deref-in-rows.result.now i j ≡ R.nil = λ i j l.
-    ap (λ (t : List (List g.row.F.Denot)). cell R t i j) c.deref-in-rows.ensures.value ∙ x_end R g.F.Field.number met.number_nil met.same rows q c.self.view_is met.field.decided i j l in
-    let row : c.shifted_row.new.prods ≤ c.rows.prods + (length powers - 1) * m =
-    subst (λ (t : List g.row.F.Denot). c.shifted_row.new.prods ≤ c.rows.prods + (length t - 1) * m) c.deref-in-rows-2.ensures.value (c.shifted_row.ensures.products m past) in
     let now : c.shifted_row.new.prods ≤ c.args.prods.now + (length powers + (c.rows.h + 1) * ((length powers - 1) * m)) =
-    more_products c.args.prods.now c.rows.prods c.shifted_row.new.prods (length powers) c.rows.h ((length powers - 1) * m) c.rows.invariant.products row in
+    row_taken R rows c.deref-in-rows.result.now c.deref-in-rows.ensures.value powers c.deref-in-rows-2.result.now c.deref-in-rows-2.ensures.value m
+    (λ i j l. nil_past R g.F.Field.number met.number_nil met.same met.field rows q i j c.self.view_is l)
+    c.args.prods.now c.rows.prods c.shifted_row.new.prods c.rows.h c.rows.invariant.products c.shifted_row.ensures.products in
     let are : ArePowers R c.args.g c.deref-in-rows-2.result.now = subst (ArePowers R c.args.g) (sym c.deref-in-rows-2.ensures.value) c.in_ok-powers.ensures.each in
     record {
-      height = c.rows.invariant.height;
+      count = c.rows.invariant.count;
       shifted =
           subst (IsShifted R rows (length powers) c.args.g (c.rows.h + 1)) (sym c.in_ok-push.ensures.items)
           (row_shifted R rows (length powers) c.args.g c.rows.h c.rows.rows.items c.in_ok-shifted_row.field-0 c.rows.invariant.shifted c.in_ok-shifted_row.ensures.before
@@ -147,8 +150,8 @@ invariant_of-result g c =
     let m : ℕ = greatest x_power q + 1 in
     let end : c.rows.h ≡ n = omega (arith, c.len-h-end.ensures ∙ c.in_ok-powers.powers.ok.0) in
     let all : IsShifted R rows n c.args.g n c.rows.rows.items = subst (λ t. IsShifted R rows n c.args.g t c.rows.rows.items) end c.rows.invariant.shifted in
-    let past : (i j : ℕ) → m ≤ i → cell R rows i j ≡ R.nil = x_end R g.F.Field.number met.number_nil met.same rows q c.self.view_is met.field.decided in
-    shifted_limits R rows n c.args.g c.rows.rows.items all m past c.rows.invariant.height.low (omega (arith, c.requires, c.rows.invariant.height.most))
+    let past : (i j : ℕ) → m ≤ i → cell R rows i j ≡ R.nil = λ i j l. nil_past R g.F.Field.number met.number_nil met.same met.field rows q i j c.self.view_is l in
+    shifted_limits R rows n c.args.g c.rows.rows.items all m past c.rows.invariant.count.low (omega (arith, c.requires, c.rows.invariant.count.most))
 
 pub returns-clause-value : goal.returns-clause-value
 returns-clause-value g c =
@@ -160,8 +163,8 @@ returns-clause-value g c =
     let m : ℕ = greatest x_power q + 1 in
     let end : c.rows.h ≡ n = omega (arith, c.len-h-end.ensures ∙ c.in_ok-powers.powers.ok.0) in
     let all : IsShifted R rows n c.args.g n c.rows.rows.items = subst (λ t. IsShifted R rows n c.args.g t c.rows.rows.items) end c.rows.invariant.shifted in
-    let past : (i j : ℕ) → m ≤ i → cell R rows i j ≡ R.nil = x_end R g.F.Field.number met.number_nil met.same rows q c.self.view_is met.field.decided in
-    shifted_value R rows n c.args.g c.rows.rows.items all g.F.Field.number met.number_nil met.same q c.self.view_is m past c.rows.invariant.height.zeros
+    let past : (i j : ℕ) → m ≤ i → cell R rows i j ≡ R.nil = λ i j l. nil_past R g.F.Field.number met.number_nil met.same met.field rows q i j c.self.view_is l in
+    shifted_value R rows n c.args.g c.rows.rows.items all g.F.Field.number met.number_nil met.same q c.self.view_is m past c.rows.invariant.count.zeros
 
 pub returns-clause-nonzero : goal.returns-clause-nonzero
 returns-clause-nonzero g c =
@@ -173,15 +176,15 @@ returns-clause-nonzero g c =
     let m : ℕ = greatest x_power q + 1 in
     let end : c.rows.h ≡ n = omega (arith, c.len-h-end.ensures ∙ c.in_ok-powers.powers.ok.0) in
     let all : IsShifted R rows n c.args.g n c.rows.rows.items = subst (λ t. IsShifted R rows n c.args.g t c.rows.rows.items) end c.rows.invariant.shifted in
-    let past : (i j : ℕ) → m ≤ i → cell R rows i j ≡ R.nil = x_end R g.F.Field.number met.number_nil met.same rows q c.self.view_is met.field.decided in
-    shifted_nonzero R rows n c.args.g c.rows.rows.items all g.F.Field.number met.number_nil met.same q c.self.view_is m past c.rows.invariant.height.zeros
+    let past : (i j : ℕ) → m ≤ i → cell R rows i j ≡ R.nil = λ i j l. nil_past R g.F.Field.number met.number_nil met.same met.field rows q i j c.self.view_is l in
+    shifted_nonzero R rows n c.args.g c.rows.rows.items all g.F.Field.number met.number_nil met.same q c.self.view_is m past c.rows.invariant.count.zeros
 
 pub returns-clause-products : goal.returns-clause-products
 returns-clause-products g c =
     let n : ℕ = length c.in_ok-powers.powers.items in
     let m : ℕ = greatest x_power c.args.self.now + 1 in
     let most : c.rows.h ≤ n = omega (arith, c.len-h-end.ensures ∙ c.in_ok-powers.powers.ok.0) in
-    last_products c.args.prods.now c.rows.prods n c.rows.h m (greatest y_power c.args.self.now + 1) most c.rows.invariant.height.most (omega arith) c.rows.invariant.products
+    last_products c.args.prods.now c.rows.prods n c.rows.h m (greatest y_power c.args.self.now + 1) most c.rows.invariant.count.most (omega arith) c.rows.invariant.products
 
 pub returns-clause-none : goal.returns-clause-none
-returns-clause-none g c z = c.rows.invariant.none (c.rows.invariant.height.none z)
+returns-clause-none g c z = c.rows.invariant.none (c.rows.invariant.count.none z)

@@ -1,7 +1,6 @@
-use Rattle.std.proofs.Common.{◌≡◌, ◌-◌, ◌<◌, ℕ, suc, List, [], length, get_or, sym, ap, subst, ◌∙◌, arith}
+use Rattle.std.proofs.Common.{◌≡◌, ◌-◌, ◌<◌, ℕ, suc, List, [], length, get_or, ap, subst, ◌∙◌, arith}
 use Rattle.std.proofs.lemmas.List.{get_or_default}
 use Rattle.algebra.specs.Lists.{coefficients, IsListOf}
-use Rattle.bi_poly.specs.Rows.{cell}
 use Rattle.bi_poly.proofs.SubstitutedRows.{substituted_from, no_rows_substituted, row_substituted, all_substituted, list_same, row_series}
 use Rattle.bi_poly.proofs.bivariate.BiPoly.substitute.Goals as goal
 
