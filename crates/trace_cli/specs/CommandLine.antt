@@ -1,9 +1,16 @@
--- What a status says of the words that it was answered for, whatever the files hold. This project's own.
+-- What the program's status says of its words, whatever the files hold. This project's own.
 use Rattle.std.specs.Prelude.{◌≡◌, ℕ, List, Contains, Some, None, ◌⊎◌}
+use Rattle.std.specs.declared.io.ErrorKind.{ErrorKind}
+use Rattle.std.specs.declared.io.ErrorKind.TheVariants.{OutOfMemory}
 use Rattle.outcome_terms.specs.declared.status.Status.{Status}
 use Rattle.outcome_terms.specs.declared.status.Status.TheVariants as status
 use Rattle.outcome_terms.specs.Commands.{request_of}
 use Rattle.outcome_terms.specs.Endings.{read_blobs, written_blob}
+
+-- the status of an error that came in place of the words
+abbrev pub argument_status : ErrorKind → Status
+argument_status OutOfMemory = status.Memory
+argument_status _ = status.BadWords
 
 pub record AnswersWords (words : List (List ℕ)) (s : Status) : Type 0 where
   -- the words are refused exactly where they are no command, but for want of memory

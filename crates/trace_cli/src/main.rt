@@ -4,10 +4,11 @@
 //! the files under the current folder and the standard output.
 #![tactic(auto)]
 
-ghost use Rattle.std.specs.Prelude.{◌≡◌, ◌<◌, ◌⊎◌, ◌↔◌, drop, map, IfOk, IfErr};
+ghost use Rattle.std.specs.Prelude.{◌≡◌, ◌<◌, drop, map, Err, IfOk, IfErr};
 ghost use Rattle.std.specs.String.{string_bytes};
 ghost use Rattle.std.specs.Vec.Iter.{into_iter_items};
-ghost use Rattle.trace_cli.specs.CommandLine.{AnswersWords};
+ghost use Rattle.std.specs.IoError.{error_kind};
+ghost use Rattle.trace_cli.specs.CommandLine.{AnswersWords, argument_status};
 
 mod accuse;
 mod ending;
@@ -25,15 +26,15 @@ use cli_words::Status;
 pub use run_call::run;
 use shelf_io::{FolderShelf, StdSink, Text};
 use std::alloc::Global;
-use std::env;
 use std::io::ErrorKind;
 use std::marker::Brand;
 use std::process::ExitCode;
 use std::sync::ledger::Blank;
+use std::{env, io};
 use steps::{Ledger, Steps};
 
 fn main(rt: HostRuntime) -> ExitCode {
-    let words = words(&rt);
+    let words = words_of(rt.alloc(), env::args(&rt));
     ExitCode::from(answered(rt, words).code())
 }
 
@@ -48,13 +49,15 @@ fn answered(rt: HostRuntime, words: Result<Vec<String>, Status>) -> Status
     }
 }
 
-/// The program's arguments after its own name. An argument that is not UTF-8 makes them no command.
-// That these are the words that the caller typed, no clause says: std promises nothing of what the system answers.
-fn words(rt: &HostRuntime) -> Result<Vec<String>, Status>
-    ensures { IfErr result (λ status. (status ≡ Status.Memory) ⊎ (status ≡ Status.BadWords)) }
+/// The words of the program's arguments, which are all but its own name. An argument that is not UTF-8 makes them no command.
+// That the arguments are what the caller typed no clause can say: std promises nothing of what `env::args` answers.
+fn words_of(alloc: Global, arguments: io::Result<env::Args>) -> Result<Vec<String>, Status>
+    ensures words { IfOk arguments (λ arguments. IfOk result (λ words. words.items ≡ drop 1 (into_iter_items arguments))) }
+    ensures memory { IfOk arguments (λ arguments. IfErr result (λ status. status ≡ Status.Memory)) }
+    ensures no_arguments { IfErr arguments (λ error. result ≡ Err (argument_status (error_kind error))) }
 {
-    match env::args(rt) {
-        Ok(arguments) => after_first(rt.alloc(), arguments),
+    match arguments {
+        Ok(arguments) => after_first(alloc, arguments),
         Err(error) => Err(argument_status(error.kind())),
     }
 }
@@ -72,8 +75,7 @@ fn after_first(alloc: Global, arguments: env::Args) -> Result<Vec<String>, Statu
 
 /// The status that an error of this kind ends with, where it came in place of the arguments.
 fn argument_status(kind: ErrorKind) -> Status
-    ensures memory { (result ≡ Status.Memory) ↔ (kind ≡ ErrorKind.OutOfMemory) }
-    ensures other { (result ≡ Status.Memory) ⊎ (result ≡ Status.BadWords) }
+    ensures { result ≡ argument_status kind }
 {
     match kind {
         ErrorKind::OutOfMemory => Status::Memory,
