@@ -1,3 +1,4 @@
 pub mod Answers
 pub mod Coalitions
 pub mod Failures
+pub mod CommandLine

@@ -4,7 +4,11 @@
 //! the files under the current folder and the standard output.
 #![tactic(auto)]
 
-ghost use Rattle.std.specs.Prelude.{◌≡◌, ◌<◌};
+ghost use Rattle.std.specs.Prelude.{◌≡◌, ◌<◌, drop, map, Err, IfOk, IfErr};
+ghost use Rattle.std.specs.String.{string_bytes};
+ghost use Rattle.std.specs.Vec.Iter.{into_iter_items};
+ghost use Rattle.std.specs.IoError.{error_kind};
+ghost use Rattle.trace_cli.specs.CommandLine.{AnswersWords, argument_status};
 
 mod accuse;
 mod ending;
@@ -22,6 +26,7 @@ use cli_words::Status;
 pub use run_call::run;
 use shelf_io::{FolderShelf, StdSink, Text};
 use std::alloc::Global;
+use std::io::ErrorKind;
 use std::marker::Brand;
 use std::process::ExitCode;
 use std::sync::ledger::Blank;
@@ -29,32 +34,51 @@ use std::{env, io};
 use steps::{Ledger, Steps};
 
 fn main(rt: HostRuntime) -> ExitCode {
-    ExitCode::from(status(rt).code())
+    let words = words_of(rt.alloc(), env::args(&rt));
+    ExitCode::from(answered(rt, words).code())
 }
 
-/// Takes the program's arguments as words.
-fn status(rt: HostRuntime) -> Status {
-    match words(&rt) {
+/// How the program ends on these words, or where they could not be had.
+fn answered(rt: HostRuntime, words: Result<Vec<String>, Status>) -> Status
+    ensures answer { IfOk words (λ words. AnswersWords (map string_bytes words.items) result) }
+    ensures no_words { IfErr words (λ status. result ≡ status) }
+{
+    match words {
         Ok(words) => counted::<Brand, Brand>(rt, words.as_slice(), Blank::new(1), Blank::new(1)),
         Err(status) => status,
     }
 }
 
-/// The program's arguments after its own name. An argument that is not UTF-8 makes them no command.
-fn words(rt: &HostRuntime) -> Result<Vec<String>, Status> {
-    let arguments = match env::args(rt) {
-        Ok(arguments) => arguments,
-        Err(error) => return Err(argument_status(error.kind())),
-    };
-    match arguments.skip(1).collect(rt.alloc()) {
+/// The words of the program's arguments, which are all but its own name. An argument that is not UTF-8 makes them no command.
+// That the arguments are what the caller typed no clause can say: std promises nothing of what `env::args` answers.
+fn words_of(alloc: Global, arguments: io::Result<env::Args>) -> Result<Vec<String>, Status>
+    ensures words { IfOk arguments (λ arguments. IfOk result (λ words. words.items ≡ drop 1 (into_iter_items arguments))) }
+    ensures memory { IfOk arguments (λ arguments. IfErr result (λ status. status ≡ Status.Memory)) }
+    ensures no_arguments { IfErr arguments (λ error. result ≡ Err (argument_status (error_kind error))) }
+{
+    match arguments {
+        Ok(arguments) => after_first(alloc, arguments),
+        Err(error) => Err(argument_status(error.kind())),
+    }
+}
+
+/// All arguments but the first.
+fn after_first(alloc: Global, arguments: env::Args) -> Result<Vec<String>, Status>
+    ensures words { IfOk result (λ words. words.items ≡ drop 1 (into_iter_items arguments)) }
+    ensures memory { IfErr result (λ status. status ≡ Status.Memory) }
+{
+    match arguments.skip(1).collect(alloc) {
         Ok(words) => Ok(words),
         Err(_) => Err(Status::Memory),
     }
 }
 
-fn argument_status(kind: io::ErrorKind) -> Status {
+/// The status that an error of this kind ends with, where it came in place of the arguments.
+fn argument_status(kind: ErrorKind) -> Status
+    ensures { result ≡ argument_status kind }
+{
     match kind {
-        io::ErrorKind::OutOfMemory => Status::Memory,
+        ErrorKind::OutOfMemory => Status::Memory,
         _ => Status::BadWords,
     }
 }
@@ -72,6 +96,7 @@ fn counted<P: Ledger, Q: Ledger>(
     requires looks_name { looks.name ≡ Q.name }
     requires looks_parts { looks.parts ≡ Q.parts }
     requires looks_some { 0 < Q.parts }
+    ensures { AnswersWords (map string_bytes words.now) result }
 {
     let alloc = rt.alloc();
     let Ok(folder) = Text::of(alloc, ".") else {

@@ -1,7 +1,7 @@
 //! `accuse`: reports, bounds, words and failures outside.
 
-use super::calls::{self, call, call_into, register, shelf};
-use shelf_io::{MemShelf, MemSink, Memory};
+use super::calls::{answer, call, call_into, register, shelf};
+use shelf_io::{MemSink, Memory};
 use std::alloc::Global;
 use std::test::Fail;
 
@@ -53,79 +53,126 @@ fn small_words(rt: HostRuntime) -> Result<(), Fail> {
     let alloc = rt.alloc();
     let twenty = register(alloc, 4, 2, 20)?;
     for (word, line, wanted) in SMALL {
-        let mut shelf = shelf(alloc, twenty.as_str(), word)?;
-        let got = call(alloc, &mut shelf, line)?;
+        let got = answer(alloc, twenty.as_str(), word, line)?;
         assert_eq!(rt; got.as_str(), wanted, "at {word}");
     }
     Ok(())
 }
 
+/// Words of the command line over five licensees and the word `5,5`: whose word it is has no serial in this register.
+const FIVE: [(&str, &str); 8] = [
+    (
+        "accuse reg w 1",
+        "0: {\"accused\":[],\"bound\":1,\"readable\":2}\n",
+    ),
+    ("", "2: error 2 words\n"),
+    ("trace a b c 3", "2: error 2 words\n"),
+    ("accuse reg w", "2: error 2 words\n"),
+    ("accuse nowhere w 1", "3: error 3 nowhere\n"),
+    ("accuse reg nowhere 1", "3: error 3 nowhere\n"),
+    ("accuse w w 1", "11: error 11 1 ending\n"),
+    ("accuse reg reg 1", "23: error 23 token 0\n"),
+];
+
 #[test]
 fn nobody_else_and_nothing_there(rt: HostRuntime) -> Result<(), Fail> {
     let alloc = rt.alloc();
-    // two licensees missing: whose word it is has no serial in this register
     let five = register(alloc, 4, 2, 5)?;
-    let mut shelf = shelf(alloc, five.as_str(), "5,5")?;
-    let got = call(alloc, &mut shelf, "accuse reg w 1")?;
-    assert_eq!(rt;
-        got.as_str(),
-        "0: {\"accused\":[],\"bound\":1,\"readable\":2}\n"
-    );
-    for (line, wanted) in [
-        ("", "2: error 2 words\n"),
-        ("trace a b c 3", "2: error 2 words\n"),
-        ("accuse reg w", "2: error 2 words\n"),
-        ("accuse nowhere w 1", "3: error 3 nowhere\n"),
-        ("accuse reg nowhere 1", "3: error 3 nowhere\n"),
-        ("accuse w w 1", "11: error 11 1 ending\n"),
-        ("accuse reg reg 1", "23: error 23 token 0\n"),
-    ] {
-        let got = call(alloc, &mut shelf, line)?;
+    for (line, wanted) in FIVE {
+        let got = answer(alloc, five.as_str(), "5,5", line)?;
         assert_eq!(rt; got.as_str(), wanted, "at {line}");
     }
     Ok(())
 }
 
-/// Three of 400 licensees over 200 places of GF(256), k = 5: places in turn show the licensees of serials 3, 7 and 300.
+/// The symbol that place `i` of 200 shows: the licensees of serials 3, 7 and 300 in turn, with codewords over GF(256), k = 5.
+fn symbol_shown(i: u32) -> u32 {
+    match i % 3 {
+        0 => 3,
+        1 => 7,
+        _ => 44 ^ i,
+    }
+}
+
+/// Adds a number, behind a comma if another stands there.
+fn add_number(text: &mut String, number: u32) -> Result<(), Memory> {
+    if !text.is_empty() {
+        text.push(',')?;
+    }
+    write!(text, "{number}")?;
+    Ok(())
+}
+
+fn word_shown(alloc: Global) -> Result<String, Memory> {
+    let mut text = String::new(alloc);
+    for i in 0u32..200 {
+        add_number(&mut text, symbol_shown(i))?;
+    }
+    Ok(text)
+}
+
+/// The places of 200 that leave `rest` when 3 divides them, and one more.
+fn places(alloc: Global, rest: u32, more: u32) -> Result<String, Memory> {
+    let mut text = String::new(alloc);
+    for i in 0u32..200 {
+        if i % 3 == rest || i == more {
+            add_number(&mut text, i)?;
+        }
+    }
+    Ok(text)
+}
+
+/// Adds a licensee with these places to the text of a report.
+fn add_accused(text: &mut String, serial: u32, places: &str) -> Result<(), Memory> {
+    write!(
+        text,
+        "{{\"name\":\"lic{serial}\",\"places\":[{places}],\"serial\":{serial}}}"
+    )?;
+    Ok(())
+}
+
+/// Each of the three agrees where its symbol is shown, and two of them at one more place.
+fn three_accused(alloc: Global) -> Result<String, Memory> {
+    let mut text = String::from_str(alloc, "0: {\"accused\":[")?;
+    add_accused(&mut text, 3, places(alloc, 0, 47)?.as_str())?;
+    text.push(',')?;
+    add_accused(&mut text, 7, places(alloc, 1, 1)?.as_str())?;
+    text.push(',')?;
+    add_accused(&mut text, 300, places(alloc, 2, 43)?.as_str())?;
+    text.push_str("],\"bound\":3,\"readable\":200}\n")?;
+    Ok(text)
+}
+
 #[test]
 fn two_hundred_places(rt: HostRuntime) -> Result<(), Fail> {
     let alloc = rt.alloc();
     let many = register(alloc, 8, 5, 400)?;
-    let mut word = String::new(alloc);
-    let mut third = String::new(alloc);
-    let mut seventh = String::new(alloc);
-    let mut last = String::new(alloc);
-    for i in 0u32..200 {
-        let symbol = match i % 3 {
-            0 => 3,
-            1 => 7,
-            _ => 44 ^ i,
-        };
-        write!(word, "{symbol},")?;
-        if i % 3 == 0 || i == 47 {
-            write!(third, "{i},")?;
-        }
-        if i % 3 == 1 {
-            write!(seventh, "{i},")?;
-        }
-        if i % 3 == 2 || i == 43 {
-            write!(last, "{i},")?;
-        }
-    }
-    let mut shelf = shelf(
-        alloc,
-        many.as_str(),
-        word.as_str().strip_suffix(",").ok_or("no comma")?,
-    )?;
-    let got = call(alloc, &mut shelf, "accuse reg w 3")?;
-    let third = third.as_str().strip_suffix(",").ok_or("no comma")?;
-    let seventh = seventh.as_str().strip_suffix(",").ok_or("no comma")?;
-    let last = last.as_str().strip_suffix(",").ok_or("no comma")?;
-    let wanted = format!(in alloc;
-        "0: {{\"accused\":[{{\"name\":\"lic3\",\"places\":[{third}],\"serial\":3}},{{\"name\":\"lic7\",\"places\":[{seventh}],\"serial\":7}},{{\"name\":\"lic300\",\"places\":[{last}],\"serial\":300}}],\"bound\":3,\"readable\":200}}\n"
-    )?;
+    let word = word_shown(alloc)?;
+    let got = answer(alloc, many.as_str(), word.as_str(), "accuse reg w 3")?;
+    let wanted = three_accused(alloc)?;
     assert_eq!(rt; got.as_str(), wanted.as_str());
     Ok(())
+}
+
+/// 64 symbols 0: the whole copy of the first licensee.
+fn all_zero(alloc: Global) -> Result<String, Memory> {
+    let mut text = String::new(alloc);
+    for _ in 0u32..64 {
+        add_number(&mut text, 0)?;
+    }
+    Ok(text)
+}
+
+/// The report of that copy, with all places from 0 to 63.
+fn whole_copy(alloc: Global) -> Result<String, Memory> {
+    let mut places = String::new(alloc);
+    for i in 0u32..64 {
+        add_number(&mut places, i)?;
+    }
+    let mut text = String::from_str(alloc, "0: {\"accused\":[")?;
+    add_accused(&mut text, 0, places.as_str())?;
+    text.push_str("],\"bound\":3,\"readable\":64}\n")?;
+    Ok(text)
 }
 
 /// One of 5,000 licensees over 64 places of GF(256), k = 2.
@@ -133,60 +180,65 @@ fn two_hundred_places(rt: HostRuntime) -> Result<(), Fail> {
 fn five_thousand_licensees(rt: HostRuntime) -> Result<(), Fail> {
     let alloc = rt.alloc();
     let many = register(alloc, 8, 2, 5000)?;
-    let mut word = String::from_str(alloc, "0")?;
-    let mut places = String::from_str(alloc, "0")?;
-    for i in 1u32..64 {
-        word.push_str(",0")?;
-        write!(places, ",{i}")?;
-    }
-    let mut shelf = shelf(alloc, many.as_str(), word.as_str())?;
-    let got = call(alloc, &mut shelf, "accuse reg w 3")?;
-    let wanted = format!(in alloc;
-        "0: {{\"accused\":[{{\"name\":\"lic0\",\"places\":[{places}],\"serial\":0}}],\"bound\":3,\"readable\":64}}\n"
-    )?;
+    let word = all_zero(alloc)?;
+    let got = answer(alloc, many.as_str(), word.as_str(), "accuse reg w 3")?;
+    let wanted = whole_copy(alloc)?;
     assert_eq!(rt; got.as_str(), wanted.as_str());
     Ok(())
 }
 
-const PAIR: &str =
-    "{\"accused\":[{\"name\":\"lic5\",\"places\":[0,1],\"serial\":5}],\"bound\":1,\"readable\":2}\n";
+/// Each call on the shelf made to fail in turn: two parts for the register, two for the word, and one call past the last.
+const FAILING_CALLS: [(u64, &str); 5] = [
+    (1, "4: error 4 reg\n"),
+    (2, "4: error 4 reg\n"),
+    (3, "4: error 4 w\n"),
+    (4, "4: error 4 w\n"),
+    (
+        5,
+        "0: {\"accused\":[{\"name\":\"lic5\",\"places\":[0,1],\"serial\":5}],\"bound\":1,\"readable\":2}\n",
+    ),
+];
 
-/// Each call on the shelf made to fail in turn, and the first put: two parts for the register, two for the word, then the answer.
+fn call_fails(alloc: Global, register: &str, number: u64) -> Result<String, Memory> {
+    let mut shelf = shelf(alloc, register, "5,5")?;
+    shelf.fail(number)?;
+    call(alloc, &mut shelf, "accuse reg w 1")
+}
+
 #[test]
-fn failures_outside(rt: HostRuntime) -> Result<(), Fail> {
+fn failures_of_the_shelf(rt: HostRuntime) -> Result<(), Fail> {
     let alloc = rt.alloc();
     let twenty = register(alloc, 4, 2, 20)?;
-    for (number, wanted) in [
-        (1u64, "4: error 4 reg\n"),
-        (2, "4: error 4 reg\n"),
-        (3, "4: error 4 w\n"),
-        (4, "4: error 4 w\n"),
-    ] {
-        let mut shelf = shelf(alloc, twenty.as_str(), "5,5")?;
-        shelf.fail(number)?;
-        let got = call(alloc, &mut shelf, "accuse reg w 1")?;
+    for (number, wanted) in FAILING_CALLS {
+        let got = call_fails(alloc, twenty.as_str(), number)?;
         assert_eq!(rt; got.as_str(), wanted, "at call {number}");
     }
-    let mut shelf = shelf(alloc, twenty.as_str(), "5,5")?;
-    shelf.fail(5)?;
-    let got = call(alloc, &mut shelf, "accuse reg w 1")?;
-    let wanted = format!(in alloc; "0: {PAIR}")?;
-    assert_eq!(rt; got.as_str(), wanted.as_str(), "one call past the last");
-    let mut shelf = calls::shelf(alloc, twenty.as_str(), "0,1,2,3,0,0,0,1,1,1")?;
-    assert_eq!(rt;
-        first_put_fails(alloc, &mut shelf, "accuse reg w 3")?.as_str(),
-        "6: {\"accused\":[{\"name\":\"lic0\",\"places\":[0,4,5,6],\"serial\":0},{\"name\":\"lic1\",\"places\":[1,7,8,"
-    );
-    let mut shelf = calls::shelf(alloc, twenty.as_str(), "0,1,2,3,0,0,0,1,1,-")?;
-    assert_eq!(rt;
-        first_put_fails(alloc, &mut shelf, "accuse reg w 3")?.as_str(),
-        "15: error "
-    );
     Ok(())
 }
 
-fn first_put_fails(alloc: Global, shelf: &mut MemShelf, line: &str) -> Result<String, Memory> {
+/// The first put of a report and of an error line made to fail.
+const FAILING_PUTS: [(&str, &str); 2] = [
+    (
+        "0,1,2,3,0,0,0,1,1,1",
+        "6: {\"accused\":[{\"name\":\"lic0\",\"places\":[0,4,5,6],\"serial\":0},{\"name\":\"lic1\",\"places\":[1,7,8,",
+    ),
+    ("0,1,2,3,0,0,0,1,1,-", "15: error "),
+];
+
+fn first_put_fails(alloc: Global, register: &str, word: &str) -> Result<String, Memory> {
+    let mut shelf = shelf(alloc, register, word)?;
     let mut out = MemSink::new(alloc);
     out.fail(1)?;
-    call_into(alloc, shelf, &mut out, line)
+    call_into(alloc, &mut shelf, &mut out, "accuse reg w 3")
+}
+
+#[test]
+fn failures_of_the_output(rt: HostRuntime) -> Result<(), Fail> {
+    let alloc = rt.alloc();
+    let twenty = register(alloc, 4, 2, 20)?;
+    for (word, wanted) in FAILING_PUTS {
+        let got = first_put_fails(alloc, twenty.as_str(), word)?;
+        assert_eq!(rt; got.as_str(), wanted, "at {word}");
+    }
+    Ok(())
 }

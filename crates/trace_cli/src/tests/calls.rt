@@ -75,3 +75,9 @@ pub fn shelf(alloc: Global, register: &str, word: &str) -> Result<MemShelf, Memo
     shelf.hold("w", word.as_bytes())?;
     Ok(shelf)
 }
+
+/// What a call over this register and this word put out, with its status in front.
+pub fn answer(alloc: Global, register: &str, word: &str, line: &str) -> Result<String, Memory> {
+    let mut shelf = shelf(alloc, register, word)?;
+    call(alloc, &mut shelf, line)
+}

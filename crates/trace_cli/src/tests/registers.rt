@@ -1,7 +1,8 @@
 //! `register` and `enrol`.
 
 use super::calls::{call, register};
-use shelf_io::{MemShelf, Shelf};
+use shelf_io::{MemShelf, Memory, Shelf, is_name};
+use std::alloc::Global;
 use std::test::Fail;
 
 /// One call after another on one shelf, and what each puts out.
@@ -22,42 +23,83 @@ const CALLS: [(&str, &str); 14] = [
     ("enrol cut lic r4", "11: error 11 4 header\n"),
 ];
 
-#[test]
-fn registers_are_written(rt: HostRuntime) -> Result<(), Fail> {
-    let alloc = rt.alloc();
+/// What the blobs are after these calls; the others are not there.
+const BLOBS: [(&str, &str); 6] = [
+    ("r0", "held: register 1\nm 4\nk 2\na 1\nb 0\n"),
+    ("r1", "held: register 1\nm 4\nk 2\na 1\nb 0\nlic0\n"),
+    ("r2", "not there"),
+    ("r3", "not there"),
+    ("r4", "not there"),
+    ("r9", "not there"),
+];
+
+/// What the shelf has under a name.
+fn held(alloc: Global, shelf: &mut MemShelf, name: &str) -> Result<String, Memory> {
+    if !is_name(name) {
+        return Ok(String::from_str(alloc, "no name")?);
+    }
+    let Ok(part) = shelf.part(alloc, name, 0, 1000) else {
+        return Ok(String::from_str(alloc, "not there")?);
+    };
+    let text = std::str::from_utf8(part.as_slice()).unwrap_or("no text");
+    Ok(format!(in alloc; "held: {text}")?)
+}
+
+/// A shelf with a register that is full and one that is cut.
+fn full_and_cut(alloc: Global) -> Result<MemShelf, Memory> {
     let mut shelf = MemShelf::new(alloc);
     shelf.hold("full", register(alloc, 4, 2, 256)?.as_bytes())?;
     shelf.hold("cut", b"register 1\nm 4\nk 2\n")?;
+    Ok(shelf)
+}
+
+#[test]
+fn calls_are_answered(rt: HostRuntime) -> Result<(), Fail> {
+    let alloc = rt.alloc();
+    let mut shelf = full_and_cut(alloc)?;
     for (line, wanted) in CALLS {
         let got = call(alloc, &mut shelf, line)?;
         assert_eq!(rt; got.as_str(), wanted, "at {line}");
     }
-    for (name, text) in [
-        ("r0", "register 1\nm 4\nk 2\na 1\nb 0\n"),
-        ("r1", "register 1\nm 4\nk 2\na 1\nb 0\nlic0\n"),
-    ] {
-        let part = shelf.part(alloc, name, 0, 1000).ok().ok_or("no such blob")?;
-        assert_eq!(rt; part.as_slice(), text.as_bytes(), "under {name}");
+    Ok(())
+}
+
+/// The shelf after these calls.
+fn after_calls(alloc: Global) -> Result<MemShelf, Memory> {
+    let mut shelf = full_and_cut(alloc)?;
+    for (line, _) in CALLS {
+        let _answer = call(alloc, &mut shelf, line)?;
     }
-    for name in ["r2", "r3", "r4", "r9"] {
-        assert!(rt; shelf.part(alloc, name, 0, 1).is_err());
+    Ok(shelf)
+}
+
+#[test]
+fn registers_are_written(rt: HostRuntime) -> Result<(), Fail> {
+    let alloc = rt.alloc();
+    let mut shelf = after_calls(alloc)?;
+    for (name, wanted) in BLOBS {
+        let got = held(alloc, &mut shelf, name)?;
+        assert_eq!(rt; got.as_str(), wanted, "under {name}");
     }
     Ok(())
+}
+
+/// A shelf with a register without licensees, whose third call fails: the write after the two parts that are read.
+fn write_fails(alloc: Global) -> Result<MemShelf, Memory> {
+    let mut shelf = MemShelf::new(alloc);
+    shelf.hold("r0", b"register 1\nm 4\nk 2\na 1\nb 0\n")?;
+    shelf.fail(3)?;
+    Ok(shelf)
 }
 
 /// The write fails: the register that was read stays.
 #[test]
 fn a_write_fails(rt: HostRuntime) -> Result<(), Fail> {
     let alloc = rt.alloc();
-    let mut shelf = MemShelf::new(alloc);
-    shelf.hold("r0", b"register 1\nm 4\nk 2\na 1\nb 0\n")?;
-    shelf.fail(3)?;
+    let mut shelf = write_fails(alloc)?;
     let got = call(alloc, &mut shelf, "enrol r0 lic0 r1")?;
     assert_eq!(rt; got.as_str(), "5: error 5 r1\n");
-    let part = shelf.part(alloc, "r0", 0, 1000).ok().ok_or("no such blob")?;
-    assert_eq!(rt;
-        part.as_slice(),
-        b"register 1\nm 4\nk 2\na 1\nb 0\n".as_slice()
-    );
+    let stays = held(alloc, &mut shelf, "r0")?;
+    assert_eq!(rt; stays.as_str(), "held: register 1\nm 4\nk 2\na 1\nb 0\n");
     Ok(())
 }

@@ -1,4 +1,4 @@
-use Rattle.trace_cli.proofs.status.Given as goal
+use Rattle.trace_cli.proofs.answered.Given as goal
 
 abbrev pub ghosts-counted-P-Ledger : goal.ghosts-counted-P-Ledger
 ghosts-counted-P-Ledger a = record { name = a.prods.name; parts = a.prods.parts }
