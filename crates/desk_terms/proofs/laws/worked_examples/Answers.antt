@@ -31,6 +31,10 @@ pub returns-clause-not_enrolled : goal.returns-clause-not_enrolled
 unfolding findings report_text accused_text agreement_of places_of symbol_of power product reduction reduced carryless digits
 returns-clause-not_enrolled c = refl
 
+pub returns-clause-lost_place : goal.returns-clause-lost_place
+unfolding findings report_text accused_text agreement_of places_of symbol_of power product reduction reduced carryless digits
+returns-clause-lost_place c = refl
+
 pub returns-clause-whole_copy : goal.returns-clause-whole_copy
 unfolding findings report_text accused_text agreement_of places_of symbol_of power product reduction reduced carryless digits
 returns-clause-whole_copy c = refl
