@@ -1,9 +1,9 @@
 -- From rows of coefficients to the polynomial that they stand for.
-use Rattle.std.proofs.Common.{◌≡◌, ◌≢◌, ◌⊎◌, inl, inr, ℕ, zero, suc, ◌+◌, ◌<◌, ◌≤◌, ◌==◌, if◌then◌else◌, Bool, true, false, cond, List, [], ◌∷◌, None, Some, get_or, set, length, refl, sym, ◌∙◌, ap, ap₂, subst, arith}
+use Rattle.std.proofs.Common.{◌≡◌, ◌≢◌, ◌⊎◌, inl, inr, ℕ, zero, suc, ◌+◌, ◌<◌, ◌==◌, if◌then◌else◌, Bool, true, false, cond, List, [], ◌∷◌, None, Some, get_or, set, length, refl, sym, ◌∙◌, ap, ap₂, subst, arith}
 use Rattle.std.specs.declared.option.Option.{Option}
 use Rattle.std.specs.Option.{unwrap_or}
 use Rattle.std.specs.Ordering.{eq_by_cmp}
-use Rattle.std.specs.FinMap.{get, find, from_entries, empty, insert, remove, get-from_entries, get-empty, get-insert, get-remove, same_map}
+use Rattle.std.specs.FinMap.{get, find, empty, insert, remove, get-from_entries, get-insert, get-remove, same_map}
 use Rattle.std.proofs.lemmas.Bool.{cases_lt, cases_eq}
 use Rattle.std.proofs.lemmas.List.{get_or-set_same, get_or-set_other, length-set}
 use Rattle.std.proofs.lemmas.Bool.Decides.{eqb_tells, nat_tests}
@@ -11,7 +11,7 @@ use Rattle.algebra.specs.Ring.{Ring}
 use Rattle.algebra.specs.Lists.{coefficients}
 use Rattle.algebra.specs.Bivariate.{Bivariate, pair_cmp, coefficient, IsProper, IsWithin}
 use Rattle.algebra.proofs.Entries.{pair_total, pair_same}
-use Rattle.bi_poly.specs.Rows.{row_at, cell, row_entries, entries_from, polynomial_of, AreLimited}
+use Rattle.bi_poly.specs.Rows.{cell, row_entries, entries_from, polynomial_of, AreLimited}
 use Rattle.bi_poly.specs.Results.{kept, IsMapOf, with_coefficient}
 
 pub keys_apart_y : (a b i j : ℕ) → b ≢ j → eq_by_cmp pair_cmp (a, b) (i, j) ≡ false

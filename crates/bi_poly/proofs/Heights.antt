@@ -1,15 +1,15 @@
 -- The degrees of what rows stand for.
-use Rattle.std.proofs.Common.{◌≡◌, ◌≢◌, ◌⊎◌, inl, inr, ℕ, zero, suc, ◌+◌, ◌*◌, ◌<◌, ◌≤◌, ◌-◌, ◌↔◌, List, length, None, true, false, refl, sym, ◌∙◌, ap, subst, arith}
+use Rattle.std.proofs.Common.{◌≡◌, ◌≢◌, ◌⊎◌, inl, inr, ℕ, zero, suc, ◌+◌, ◌<◌, ◌≤◌, ◌-◌, ◌↔◌, List, length, None, true, false, refl, sym, ◌∙◌, ap, subst, arith}
 use Rattle.std.specs.declared.option.Option.{Option}
 use Rattle.std.specs.declared.option.Option.TheVariants.{Some}
 use Rattle.std.specs.Option.{SomeIff, IsNone, IfSome}
-use Rattle.std.specs.FinMap.{get, empty}
+use Rattle.std.specs.FinMap.{empty}
 use Rattle.std.proofs.lemmas.Bool.{cases_lt}
 use Rattle.std.proofs.lemmas.Bool.Decides.{nat_tests}
 use Rattle.algebra.specs.Ring.{Ring, IsField}
 use Rattle.algebra.specs.Roots.{total}
 use Rattle.algebra.specs.Lists.{coefficients, IsListOf}
-use Rattle.algebra.specs.Bivariate.{Bivariate, greatest, x_power, y_power, x_power_at, weight_by}
+use Rattle.algebra.specs.Bivariate.{Bivariate, greatest, x_power, y_power, x_power_at}
 use Rattle.algebra.proofs.CoefficientLists.{coefficients_below}
 use Rattle.algebra.proofs.Entries.{greatest_at, greatest_least}
 use Rattle.bi_poly.specs.Rows.{cell, polynomial_of}

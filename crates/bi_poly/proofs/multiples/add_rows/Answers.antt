@@ -1,9 +1,8 @@
-use Rattle.std.proofs.Common.{◌≡◌, ◌≢◌, inl, inr, ℕ, ◌+◌, ◌<◌, ◌≤◌, List, [], length, get_or, set, sym, ap, subst, ◌∙◌, arith}
+use Rattle.std.proofs.Common.{◌≡◌, inl, inr, ℕ, ◌+◌, ◌<◌, ◌≤◌, List, [], length, get_or, set, ap, ◌∙◌, arith}
 use Rattle.std.proofs.lemmas.Bool.{cases_lt}
 use Rattle.std.proofs.lemmas.List.{get_or_default, length-set}
 use Rattle.algebra.specs.Lists.{coefficients}
-use Rattle.algebra.specs.Roots.{total}
-use Rattle.bi_poly.specs.Rows.{cell, row_at}
+use Rattle.bi_poly.specs.Rows.{row_at}
 use Rattle.bi_poly.proofs.Heights.{trimmed_room}
 use Rattle.bi_poly.proofs.Adding.{AreAdded, added_row, room_kept, total_more}
 use Rattle.bi_poly.proofs.multiples.add_rows.Goals as goal

@@ -1,12 +1,11 @@
-use Rattle.std.proofs.Common.{◌≡◌, ◌≢◌, ℕ, ◌+◌, ◌<◌, ◌≤◌, List, length, sym, ap, ap₂, subst, ◌∙◌, arith}
+use Rattle.std.proofs.Common.{◌≡◌, ℕ, ◌+◌, ◌≤◌, List, sym, ap, ap₂, subst, ◌∙◌, arith}
 use Rattle.algebra.specs.Roots.{total}
-use Rattle.algebra.specs.Bivariate.{Bivariate, coefficient, greatest, x_power_at, y_power}
-use Rattle.bi_poly.specs.Rows.{cell, polynomial_of}
-use Rattle.bi_poly.specs.Results.{IsMapOf}
+use Rattle.algebra.specs.Bivariate.{Bivariate, coefficient, greatest, x_power_at}
+use Rattle.bi_poly.specs.Rows.{cell}
 use Rattle.bi_poly.proofs.Adding.{AreAdded, added_rows}
 use Rattle.bi_poly.proofs.Cells.{same_polynomial, coefficient_cell, map_of}
 use Rattle.bi_poly.proofs.Heights.{IsHeight, total_height, nil_past_row, empty_height}
-use Rattle.bi_poly.proofs.Outcomes.{on_err, on_ok}
+use Rattle.bi_poly.proofs.Outcomes.{on_err}
 use Rattle.bi_poly.proofs.bivariate.BiPoly.add_multiple.Goals as goal
 
 pub returns-in_err-grow_rows-clause-err : goal.returns-in_err-grow_rows-clause-err

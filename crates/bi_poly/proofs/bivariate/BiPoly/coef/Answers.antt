@@ -1,4 +1,4 @@
-use Rattle.std.proofs.Common.{◌≡◌, ℕ, sym, ap, ◌∙◌}
+use Rattle.std.proofs.Common.{sym, ap, ◌∙◌}
 use Rattle.algebra.specs.Bivariate.{Bivariate, coefficient}
 use Rattle.bi_poly.specs.Rows.{cell}
 use Rattle.bi_poly.proofs.Cells.{coefficient_cell}

@@ -1,11 +1,11 @@
-use Rattle.std.proofs.Common.{◌≡◌, ℕ, ◌<◌, List, [], length, get_or, set, sym, ap, ◌∙◌, subst, arith}
+use Rattle.std.proofs.Common.{◌≡◌, ◌<◌, List, [], length, set, ap, ◌∙◌, arith}
 use Rattle.std.proofs.lemmas.List.{get_or-set_same, get_or_default}
 use Rattle.algebra.specs.Lists.{coefficients}
 use Rattle.algebra.specs.Bivariate.{Bivariate}
-use Rattle.bi_poly.specs.Rows.{cell, polynomial_of}
+use Rattle.bi_poly.specs.Rows.{polynomial_of}
 use Rattle.bi_poly.specs.Results.{with_coefficient}
 use Rattle.bi_poly.proofs.Cells.{same_polynomial, same_replaced, polynomial_put}
-use Rattle.bi_poly.proofs.Outcomes.{on_err, on_ok}
+use Rattle.bi_poly.proofs.Outcomes.{on_err}
 use Rattle.bi_poly.proofs.bivariate.BiPoly.set.Goals as goal
 
 pub returns-in_err-grow_rows-clause-err : goal.returns-in_err-grow_rows-clause-err

@@ -1,10 +1,9 @@
-use Rattle.std.proofs.Common.{◌≡◌, ◌≢◌, ◌⊎◌, inl, inr, ℕ, ◌+◌, ◌*◌, ◌<◌, ◌≤◌, List, [], length, get_or, true, false, refl, sym, ap, subst, ◌∙◌, arith}
+use Rattle.std.proofs.Common.{◌≡◌, ◌≢◌, inl, inr, ℕ, ◌≤◌, List, [], length, refl, sym, ap, subst, ◌∙◌, arith}
 use Rattle.std.proofs.lemmas.Bool.{cases_lt}
 use Rattle.std.proofs.lemmas.Bool.Decides.{nat_tests}
 use Rattle.std.proofs.lemmas.List.{get_or_default}
 use Rattle.algebra.specs.Lists.{coefficients}
-use Rattle.algebra.specs.Bivariate.{Bivariate, greatest, weight_by}
-use Rattle.bi_poly.specs.Rows.{cell}
+use Rattle.algebra.specs.Bivariate.{greatest, weight_by}
 use Rattle.bi_poly.proofs.Heights.{IsHeight, height_none, empty_height, greatest_is}
 use Rattle.bi_poly.proofs.bivariate.BiPoly.weighted_degree.Goals as goal
 

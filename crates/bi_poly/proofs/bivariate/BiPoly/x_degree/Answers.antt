@@ -1,4 +1,4 @@
-use Rattle.std.proofs.Common.{◌≡◌, ℕ, ◌+◌, ◌*◌, ap, subst, arith}
+use Rattle.std.proofs.Common.{◌≡◌, ℕ, subst, arith}
 use Rattle.std.specs.Option.{IfSome}
 use mathlib.Core.Path.{fun_ext}
 use Rattle.algebra.specs.Bivariate.{greatest, weight_by, x_power}
