@@ -2,7 +2,7 @@
 
 ghost use Rattle.std.specs.Prelude.{◌≡◌, ◌<◌};
 
-use crate::{Poly, PolyList};
+use crate::{Poly, PolyList, add_shifted, trimmed};
 use gf2m::{Field, Gf, Ledger, Steps};
 use std::alloc::Global;
 use std::marker::Brand;
@@ -210,6 +210,58 @@ fn known_in_one_field<P: Ledger>(rt: &impl Abort, alloc: Global, blank: Blank)
 #[test]
 fn agrees_in_one_field(rt: HostRuntime) {
     known_in_one_field::<Brand>(&rt, rt.alloc(), Blank::new(1));
+}
+
+/// Whether x times the factor times the source, added to the target, gives these coefficients without the zeros at the end.
+fn adds_shifted<F: Field, P: Ledger>(
+    alloc: Global,
+    target: &[u8],
+    source: &[u8],
+    factor: u8,
+    want: &[u8],
+    prods: &mut Steps<P>,
+) -> Option<bool> {
+    let mut sum = Vec::new(alloc);
+    for number in target {
+        sum.push(F::of(*number)?).ok()?;
+    }
+    let source = polynomial::<F>(alloc, source)?;
+    if sum.len() <= source.as_slice().len() || sum.len() > 1000 {
+        return None;
+    }
+    add_shifted(
+        sum.as_mut_slice(),
+        source.as_slice(),
+        F::of(factor)?,
+        1,
+        prods,
+    );
+    Some(has(trimmed(sum.as_slice()), want))
+}
+
+fn known_shifted_sums<P: Ledger>(rt: &impl Abort, alloc: Global, blank: Blank)
+    requires name { blank.name ≡ P.name }
+    requires parts { blank.parts ≡ P.parts }
+    requires some { 0 < P.parts }
+{
+    let mut prods = Steps::<P>::new(blank);
+    let target = [1, 2, 3, 6, 0];
+    let ends = adds_shifted::<Gf<4>, P>(alloc, &target, &[1, 0, 3], 2, &[1, 0, 3], &mut prods);
+    assert!(rt; ends == Some(true));
+    let goes_on = adds_shifted::<Gf<8>, P>(
+        alloc,
+        &target,
+        &[7, 9],
+        29,
+        &[1, 81, 246, 6],
+        &mut prods,
+    );
+    assert!(rt; goes_on == Some(true));
+}
+
+#[test]
+fn adds_shifted_multiples(rt: HostRuntime) {
+    known_shifted_sums::<Brand>(&rt, rt.alloc(), Blank::new(1));
 }
 
 fn shape(alloc: Global, numbers: &[u8]) -> Option<(Option<usize>, u8, u8)> {
