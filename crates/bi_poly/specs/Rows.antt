@@ -3,9 +3,9 @@
 use Rattle.std.specs.Prelude.{◌≡◌, ◌≢◌, ℕ, suc, ◌<◌, ◌≤◌, ◌==◌, if◌then◌else◌, List, [], ◌∷◌, length, slice_index_or}
 use Rattle.std.specs.FinMap.{from_entries}
 use Rattle.algebra.specs.Ring.{Ring}
-use Rattle.algebra.specs.Sums.{power}
+use Rattle.algebra.specs.Sums.{power, sum_below}
 use Rattle.algebra.specs.Lists.{coefficients}
-use Rattle.algebra.specs.Bivariate.{Bivariate}
+use Rattle.algebra.specs.Bivariate.{Bivariate, weight}
 
 -- the row of y^j
 abbrev pub row_at : {F : Type 0} → List (List F) → ℕ → List F
@@ -43,3 +43,7 @@ HaveRoom R others count rows = (i j : ℕ) → j < count → cell R others i j �
 -- the powers of g, from g^0 on
 abbrev pub ArePowers : {F : Type 0} → Ring F → F → List F → Type 0
 ArePowers R g powers = (k : ℕ) → k < length powers → coefficients R powers k ≡ power R g k
+
+-- the Hasse derivative of order u at a of the polynomial in x with these first n coefficients
+abbrev pub derivative_sum : {F : Type 0} → Ring F → ℕ → List F → ℕ → F → F
+derivative_sum R n coefs u a = sum_below R n (λ i. R.times (coefficients R coefs i) (weight R a i u))

@@ -48,7 +48,8 @@ fn heaviest<F: Field>(row: &Row<F>, w: usize, j: usize) -> usize
     requires y { (i : ℕ) → 4096 ≤ j → coefficients F.ring row.now i ≡ F.ring.nil }
     requires w { w ≤ 12 }
     ensures most { (i : ℕ) → coefficients F.ring row.now i ≢ F.ring.nil → i + w * j ≤ result }
-    ensures reached { (result ≡ 0) ⊎ ((i : ℕ) × (coefficients F.ring row.now i ≢ F.ring.nil) × (result ≡ i + w * j)) }
+    ensures reached { (result ≡ 0)
+        ⊎ ((i : ℕ) × (coefficients F.ring row.now i ≢ F.ring.nil) × (result ≡ i + w * j)) }
 {
     match row.trimmed().len().checked_sub(1) {
         Some(last) => last + w * j,

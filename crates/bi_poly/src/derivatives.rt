@@ -3,10 +3,10 @@
 ghost use Rattle.std.specs.Prelude.{◌≡◌, ℕ, ◌+◌, ◌<◌, ◌≤◌, if◌then◌else◌, length};
 ghost use Rattle.std.specs.FinMap.{empty};
 ghost use Rattle.algebra.specs.Binomials.{has_bits};
-ghost use Rattle.algebra.specs.Bivariate.{greatest, hasse_derivative, weight, x_power_at, y_power};
+ghost use Rattle.algebra.specs.Bivariate.{hasse_derivative};
 ghost use Rattle.algebra.specs.Lists.{coefficients};
-ghost use Rattle.algebra.specs.Roots.{total};
-ghost use Rattle.algebra.specs.Sums.{sum_below};
+ghost use Rattle.bi_poly.specs.Results.{row_total};
+ghost use Rattle.bi_poly.specs.Rows.{derivative_sum};
 
 use crate::bivariate::BiPoly;
 use crate::row::Row;
@@ -18,7 +18,7 @@ impl<F: Field> BiPoly<F> {
     pub fn hasse<P: Ledger>(&self, u: usize, v: usize, a: F, b: F, prods: &mut Steps<P>) -> F
         ensures value { result ≡ hasse_derivative F.ring self.now u v a b }
         // for each power of y up to the greatest, two more than the greatest power of x beside it
-        ensures products { prods.new ≤ prods.old + total (greatest y_power self.now + 1) (λ j. greatest (x_power_at j) self.now + 2) }
+        ensures products { prods.new ≤ prods.old + row_total 2 self.now }
         ensures none { self.now ≡ empty → prods.new ≡ prods.old }
     {
         let height = height(&self.rows);
@@ -41,8 +41,9 @@ fn derivative_where_odd<F: Field, P: Ledger>(
     prods: &mut Steps<P>,
 ) -> F
     ensures value { (n : ℕ) → ((i : ℕ) → n ≤ i → coefficients F.ring row.now i ≡ F.ring.nil) →
-        result ≡ (if has_bits j v then sum_below F.ring n (λ i. F.ring.times (coefficients F.ring row.now i) (weight F.ring a i u)) else F.ring.nil) }
-    ensures products { (d : ℕ) → ((i : ℕ) → d < i → coefficients F.ring row.now i ≡ F.ring.nil) → prods.new ≤ prods.old + (d + 1) }
+        result ≡ (if has_bits j v then derivative_sum F.ring n row.now u a else F.ring.nil) }
+    ensures products { (d : ℕ) → ((i : ℕ) → d < i → coefficients F.ring row.now i ≡ F.ring.nil)
+        → prods.new ≤ prods.old + (d + 1) }
 {
     if j & v == v {
         derivative(row.trimmed(), u, a, prods)
@@ -53,7 +54,7 @@ fn derivative_where_odd<F: Field, P: Ledger>(
 
 // The Hasse derivative of order u at a of the polynomial in x with these coefficients.
 fn derivative<F: Field, P: Ledger>(coefs: &[F], u: usize, a: F, prods: &mut Steps<P>) -> F
-    ensures value { result ≡ sum_below F.ring (length coefs.now) (λ i. F.ring.times (coefficients F.ring coefs.now i) (weight F.ring a i u)) }
+    ensures value { result ≡ derivative_sum F.ring (length coefs.now) coefs.now u a }
     ensures products { prods.new ≤ prods.old + length coefs.now }
 {
     let mut value = F::zero();

@@ -1,4 +1,5 @@
-//! Polynomials in two variables over a field: their degrees, Hasse derivatives, substitutions and shifts, and multiples that are added in place.
+//! Polynomials in two variables over a field: their degrees, Hasse derivatives, substitutions and shifts, and multiples that
+//! are added in place.
 #![tactic(auto)]
 
 mod bivariate;

@@ -2,10 +2,9 @@
 
 ghost use Rattle.std.specs.Prelude.{◌≡◌, ℕ, ◌+◌, ◌<◌, ◌≤◌, length, OnOk, OnErr};
 ghost use Rattle.std.specs.FinMap.{empty};
-ghost use Rattle.algebra.specs.Bivariate.{coefficient, greatest, x_power_at, y_power};
 ghost use Rattle.algebra.specs.Lists.{coefficients};
 ghost use Rattle.algebra.specs.Roots.{total};
-ghost use Rattle.bi_poly.specs.Results.{IsMapOf};
+ghost use Rattle.bi_poly.specs.Results.{IsMapOf, plus_multiple, row_total};
 ghost use Rattle.bi_poly.specs.Rows.{HaveRoom, cell, row_at};
 
 use crate::bivariate::BiPoly;
@@ -23,10 +22,10 @@ impl<F: Field> BiPoly<F> {
         factor: F,
         prods: &mut Steps<P>,
     ) -> Result<(), Memory>
-        ensures ok { OnOk result (IsMapOf F.number (λ i j. F.ring.plus (coefficient F.ring self.old i j) (F.ring.times factor (coefficient F.ring other.now i j))) self.new) }
+        ensures ok { OnOk result (IsMapOf F.number (plus_multiple F.ring self.old factor other.now) self.new) }
         ensures err { OnErr result (self.new ≡ self.old) }
         // for each power of y of the other polynomial up to the greatest, one more than the greatest power of x beside it
-        ensures products { prods.new ≤ prods.old + total (greatest y_power other.now + 1) (λ j. greatest (x_power_at j) other.now + 1) }
+        ensures products { prods.new ≤ prods.old + row_total 1 other.now }
         ensures none { other.now ≡ empty → prods.new ≡ prods.old }
     {
         let height = height(&other.rows);
@@ -66,9 +65,12 @@ fn add_rows<F: Field, P: Ledger>(
     requires rows { count ≤ length rows.old.items }
     requires others { count ≤ length others.now }
     requires room { HaveRoom F.ring others.now count rows.old.items }
-    ensures sums { (i j : ℕ) → j < count → cell F.ring rows.new.items i j ≡ F.ring.plus (cell F.ring rows.old.items i j) (F.ring.times factor (cell F.ring others.now i j)) }
+    ensures sums { (i j : ℕ) → j < count →
+        cell F.ring rows.new.items i j
+        ≡ F.ring.plus (cell F.ring rows.old.items i j) (F.ring.times factor (cell F.ring others.now i j)) }
     ensures same { (i j : ℕ) → count ≤ j → cell F.ring rows.new.items i j ≡ cell F.ring rows.old.items i j }
-    ensures products { (most : ℕ → ℕ) → ((i j : ℕ) → most j ≤ i → cell F.ring others.now i j ≡ F.ring.nil) → prods.new ≤ prods.old + total count most }
+    ensures products { (most : ℕ → ℕ) → ((i j : ℕ) → most j ≤ i → cell F.ring others.now i j ≡ F.ring.nil)
+        → prods.new ≤ prods.old + total count most }
     ensures none { count ≡ 0 → prods.new ≡ prods.old }
 {
     'rows: for j in 0..count {

@@ -91,7 +91,11 @@ impl<F: Field> Row<F> {
         requires { at + length source.now ≤ length self.old }
         ensures length { length self.new ≡ length self.old }
         ensures before { (k : ℕ) → k < at → coefficients F.ring self.new k ≡ coefficients F.ring self.old k }
-        ensures from { (k : ℕ) → coefficients F.ring self.new (at + k) ≡ F.ring.plus (coefficients F.ring self.old (at + k)) (F.ring.times factor (coefficients F.ring source.now k)) }
+        ensures from { (k : ℕ) →
+            coefficients F.ring self.new (at + k)
+            ≡ F.ring.plus
+            (coefficients F.ring self.old (at + k))
+            (F.ring.times factor (coefficients F.ring source.now k)) }
         ensures products { prods.new ≡ prods.old + length source.now }
     {
         add_shifted(self.coefs.as_mut_slice(), source, factor, at, prods);

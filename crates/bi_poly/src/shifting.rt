@@ -1,12 +1,25 @@
 //! The shift that takes Q(x, y) to Q(x, x y + g).
 
-ghost use Rattle.std.specs.Prelude.{◌≡◌, ◌≢◌, ℕ, ◌+◌, ◌-◌, ◌*◌, ◌<◌, ◌≤◌, if◌then◌else◌, length, IfOk, OnOk};
+ghost use Rattle.std.specs.Prelude.{
+  ◌≡◌,
+  ◌≢◌,
+  ℕ,
+  ◌+◌,
+  ◌-◌,
+  ◌*◌,
+  ◌<◌,
+  ◌≤◌,
+  if◌then◌else◌,
+  length,
+  IfOk,
+  OnOk,
+};
 ghost use Rattle.algebra.specs.Binomials.{has_bits};
 ghost use Rattle.std.specs.FinMap.{empty};
 ghost use Rattle.algebra.specs.Bivariate.{greatest, shift_of, weight, x_power, y_power};
 ghost use Rattle.algebra.specs.Lists.{coefficients};
 ghost use Rattle.algebra.specs.Sums.{power, sum_below};
-ghost use Rattle.bi_poly.specs.Results.{IsMapOf};
+ghost use Rattle.bi_poly.specs.Results.{IsMapOf, shift_bound};
 ghost use Rattle.bi_poly.specs.Rows.{ArePowers, cell};
 
 use crate::bivariate::BiPoly;
@@ -22,7 +35,7 @@ impl<F: Field> BiPoly<F> {
         requires { greatest x_power self.now + greatest y_power self.now < 65536 }
         ensures value { IfOk result (λ shifted. IsMapOf F.number (shift_of F.ring self.now g) shifted) }
         ensures nonzero { self.now ≢ empty → IfOk result (λ shifted. shifted ≢ empty) }
-        ensures products { prods.new ≤ prods.old + (greatest x_power self.now + 1) * ((greatest y_power self.now + 1) * (greatest y_power self.now + 1)) }
+        ensures products { prods.new ≤ prods.old + shift_bound self.now }
         ensures none { self.now ≡ empty → prods.new ≡ prods.old }
     {
         let powers = powers(self.alloc, g, height(&self.rows), prods)?;
@@ -72,8 +85,10 @@ fn shifted_row<F: Field, P: Ledger>(
     requires limit { (i j : ℕ) → 65536 ≤ i → cell F.ring rows.now i j ≡ F.ring.nil }
     ensures before { IfOk result (λ row. (k : ℕ) → k < h → coefficients F.ring row k ≡ F.ring.nil) }
     ensures from { (g : F) → ArePowers F.ring g powers.now → IfOk result (λ row. (k : ℕ) →
-        coefficients F.ring row (h + k) ≡ sum_below F.ring (length powers.now) (λ j. F.ring.times (cell F.ring rows.now k j) (weight F.ring g j h))) }
-    ensures products { (most : ℕ) → ((i j : ℕ) → most ≤ i → cell F.ring rows.now i j ≡ F.ring.nil) → prods.new ≤ prods.old + (length powers.now - 1) * most }
+        coefficients F.ring row (h + k)
+        ≡ sum_below F.ring (length powers.now) (λ j. F.ring.times (cell F.ring rows.now k j) (weight F.ring g j h))) }
+    ensures products { (most : ℕ) → ((i j : ℕ) → most ≤ i → cell F.ring rows.now i j ≡ F.ring.nil)
+        → prods.new ≤ prods.old + (length powers.now - 1) * most }
 {
     let mut row = raised(alloc, rows[h].trimmed(), h)?;
     'rows: for j in h + 1..powers.len() {
@@ -85,7 +100,8 @@ fn shifted_row<F: Field, P: Ledger>(
 // x^at times the polynomial with these coefficients.
 fn raised<F: Field>(alloc: Global, coefs: &[F], at: usize) -> Result<Row<F>, AllocError>
     ensures before { IfOk result (λ row. (k : ℕ) → k < at → coefficients F.ring row k ≡ F.ring.nil) }
-    ensures from { IfOk result (λ row. (k : ℕ) → coefficients F.ring row (at + k) ≡ coefficients F.ring coefs.now k) }
+    ensures from { IfOk result (λ row. (k : ℕ) →
+        coefficients F.ring row (at + k) ≡ coefficients F.ring coefs.now k) }
 {
     let mut row = Vec::new(alloc);
     row.resize(at, F::zero())?;
@@ -104,7 +120,11 @@ fn add_term<F: Field, P: Ledger>(
 ) -> Result<(), AllocError>
     requires { h + length coefs.now < 18446744073709551616 }
     ensures before { (k : ℕ) → k < h → coefficients F.ring row.new k ≡ coefficients F.ring row.old k }
-    ensures from { OnOk result ((k : ℕ) → coefficients F.ring row.new (h + k) ≡ F.ring.plus (coefficients F.ring row.old (h + k)) (if has_bits j h then F.ring.times power (coefficients F.ring coefs.now k) else F.ring.nil)) }
+    ensures from { OnOk result ((k : ℕ) →
+        coefficients F.ring row.new (h + k)
+        ≡ F.ring.plus
+        (coefficients F.ring row.old (h + k))
+        (if has_bits j h then F.ring.times power (coefficients F.ring coefs.now k) else F.ring.nil)) }
     ensures products { prods.new ≤ prods.old + length coefs.now }
 {
     if j & h == h {

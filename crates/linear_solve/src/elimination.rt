@@ -20,8 +20,14 @@ pub(crate) fn eliminate<F: Field, P: Ledger>(
 ) -> Result<Vec<Pivot<F>>, AllocError>
     requires { HaveLength columns (map (λ row. row.items) rows.items) }
     ensures pivots { IfOk result (λ pivots. ArePivots F.ring columns pivots.items) }
-    ensures solutions { IfOk result (λ pivots. HaveSameSolutions F.ring columns (map (λ row. row.items) rows.items) [] pivots.items) }
-    ensures rank { IfOk result (λ pivots. IsRank F.ring (length (map (λ row. row.items) rows.items)) columns (entries F.ring (map (λ row. row.items) rows.items)) (length pivots.items)) }
+    ensures solutions { IfOk result (λ pivots.
+        HaveSameSolutions F.ring columns (map (λ row. row.items) rows.items) [] pivots.items) }
+    ensures rank { IfOk result (λ pivots.
+        IsRank F.ring
+        (length (map (λ row. row.items) rows.items))
+        columns
+        (entries F.ring (map (λ row. row.items) rows.items))
+        (length pivots.items)) }
     ensures count { IfOk result (λ pivots. length pivots.items ≤ length rows.items) }
     ensures products { prods.new ≤ prods.old + length rows.items * (1 + (length rows.items - 1) * (1 + columns)) }
 {
@@ -91,7 +97,8 @@ fn clear_all<F: Field, P: Ledger>(
 )
     requires column { column < length pivot.now }
     requires lengths { HaveLength (length pivot.now) (map (λ row. row.items) rows.old) }
-    ensures cleared { map (λ row. row.items) rows.new ≡ map (cleared F.ring pivot.now column inverse) (map (λ row. row.items) rows.old) }
+    ensures cleared { map (λ row. row.items) rows.new
+        ≡ map (cleared F.ring pivot.now column inverse) (map (λ row. row.items) rows.old) }
     ensures products { prods.new ≤ prods.old + length rows.old * (1 + length pivot.now) }
 {
     'rows: for row in rows.iter_mut() {

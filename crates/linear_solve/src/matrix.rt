@@ -38,7 +38,8 @@ impl<F: Field> Matrix<F> {
         requires rows { 1 ≤ rows }
         requires columns { 1 ≤ cols }
         requires few { rows * cols ≤ 150000000 }
-        ensures { IfOk result (λ matrix. matrix ≡ record { columns = cols; rows = replicate rows (replicate cols F.ring.nil) }) }
+        ensures { IfOk result (λ matrix.
+            matrix ≡ record { columns = cols; rows = replicate rows (replicate cols F.ring.nil) }) }
     {
         let mut lines = Vec::new(alloc);
         'rows: for _row in 0..rows {
@@ -73,9 +74,12 @@ impl<F: Field> Matrix<F> {
     /// A vector that every row sends to zero: one that is not zero, where there is one. The only error is want of memory.
     pub fn kernel<P: Ledger>(self, prods: &mut Steps<P>) -> Result<Option<Elements<F>>, Memory>
         ensures length { IfOk result (λ found. IfSome found (λ x. length x ≡ self.columns)) }
-        ensures solves { IfOk result (λ found. IfSome found (λ x. Solves F.ring (length self.rows) self.columns (entries F.ring self.rows) (coefficients F.ring x))) }
-        ensures nonzero { IfOk result (λ found. IfSome found (λ x. IsZero F.ring self.columns (coefficients F.ring x) → ⊥)) }
-        ensures none { IfOk result (λ found. IsNone found ↔ OnlyZeroSolves F.ring (length self.rows) self.columns (entries F.ring self.rows)) }
+        ensures solves { IfOk result (λ found. IfSome found (λ x.
+            Solves F.ring (length self.rows) self.columns (entries F.ring self.rows) (coefficients F.ring x))) }
+        ensures nonzero { IfOk result (λ found. IfSome found (λ x.
+            IsZero F.ring self.columns (coefficients F.ring x) → ⊥)) }
+        ensures none { IfOk result (λ found.
+            IsNone found ↔ OnlyZeroSolves F.ring (length self.rows) self.columns (entries F.ring self.rows)) }
         ensures wide { length self.rows < self.columns → IfOk result (λ found. IsNone found → ⊥) }
         ensures products { prods.new ≤ prods.old + 3 * (length self.rows * length self.rows) * self.columns }
     {
@@ -94,7 +98,8 @@ impl<F: Field> Matrix<F> {
 
     /// The rank: how many rows the longest list of independent rows has. The only error is want of memory.
     pub fn rank<P: Ledger>(self, prods: &mut Steps<P>) -> Result<usize, Memory>
-        ensures rank { IfOk result (λ rank. IsRank F.ring (length self.rows) self.columns (entries F.ring self.rows) rank) }
+        ensures rank { IfOk result (λ rank.
+            IsRank F.ring (length self.rows) self.columns (entries F.ring self.rows) rank) }
         ensures products { prods.new ≤ prods.old + 3 * (length self.rows * length self.rows) * self.columns }
     {
         let Matrix {

@@ -12,8 +12,10 @@ use std::alloc::{AllocError, Global};
 
 // A column that is no pivot's.
 pub(crate) fn free_column<F: Field>(pivots: &[Pivot<F>], columns: usize) -> Option<usize>
-    ensures some { IfSome result (λ free. (free < columns) × ((j : ℕ) → j < length pivots.now → slice_index (columns_of pivots.now) j ≢ free)) }
-    ensures none { IsNone result → (k : ℕ) → k < columns → ((j : ℕ) → j < length pivots.now → slice_index (columns_of pivots.now) j ≢ k) → ⊥ }
+    ensures some { IfSome result (λ free.
+        (free < columns) × ((j : ℕ) → j < length pivots.now → slice_index (columns_of pivots.now) j ≢ free)) }
+    ensures none { IsNone result → (k : ℕ) → k < columns
+        → ((j : ℕ) → j < length pivots.now → slice_index (columns_of pivots.now) j ≢ k) → ⊥ }
 {
     for column in 0..columns {
         if is_free(pivots, column) {
@@ -60,7 +62,8 @@ pub(crate) fn solution<F: Field, P: Ledger>(
     requires inside { free < columns }
     requires free { (j : ℕ) → j < length pivots.now → slice_index (columns_of pivots.now) j ≢ free }
     ensures long { IfOk result (λ vector. length vector.items ≡ columns) }
-    ensures solves { IfOk result (λ vector. Solves F.ring (length pivots.now) columns (entries F.ring (rows_of pivots.now)) (coefficients F.ring vector.items)) }
+    ensures solves { IfOk result (λ vector.
+        Solves F.ring (length pivots.now) columns (entries F.ring (rows_of pivots.now)) (coefficients F.ring vector.items)) }
     ensures one { IfOk result (λ vector. coefficients F.ring vector.items free ≡ F.ring.unit) }
     ensures products { prods.new ≤ prods.old + length pivots.now * (columns + 1) }
 {

@@ -30,31 +30,44 @@ pub fn run<S: Shelf, O: Sink, P: Ledger, Q: Ledger>(
     prods: &mut Steps<P>,
     looks: &mut Steps<Q>,
 ) -> Status
-    // Where `accuse` is done, what it put out is the report of exactly the enrolled licensees who agree with at least r/c of the r readable places.
-    ensures report { (reg word : List ℕ) (c : ℕ) → request_of (map string_bytes words.now) ≡ Some (Accuse reg word c) → result ≡ Status.Ok
+    // Where `accuse` is done, what it put out is the report of exactly the enrolled licensees who agree with at least r/c of
+    // the r readable places.
+    ensures report { (reg word : List ℕ) (c : ℕ) → request_of (map string_bytes words.now) ≡ Some (Accuse reg word c)
+        → result ≡ Status.Ok
         → TellsReport (S.holds shelf.old) reg word c (O.written out.old) (O.written out.new) }
 
     // If a coalition of at most c licensees explains that word, everyone who is accused is a member, and somebody is accused.
-    ensures coalition { (reg word : List ℕ) (c : ℕ) → request_of (map string_bytes words.now) ≡ Some (Accuse reg word c) → result ≡ Status.Ok
+    ensures coalition { (reg word : List ℕ) (c : ℕ) → request_of (map string_bytes words.now) ≡ Some (Accuse reg word c)
+        → result ≡ Status.Ok
         → TracesCoalitions (S.holds shelf.old) reg word c }
 
     // The words are refused exactly where they are no command.
     ensures bad_words { result ≡ Status.BadWords → request_of (map string_bytes words.now) ≡ None }
-    ensures no_command { request_of (map string_bytes words.now) ≡ None → (result ≡ Status.BadWords) ⊎ (result ≡ Status.Memory) }
+    ensures no_command { request_of (map string_bytes words.now) ≡ None
+        → (result ≡ Status.BadWords) ⊎ (result ≡ Status.Memory) }
 
     // Whatever the counts did, a status that the words and the blobs decide is the outcome's.
-    ensures decided { IfSome (S.holds shelf.old) (λ blobs. is_free_status result ≡ false → result ≡ outcome_status (outcome (map string_bytes words.now) blobs)) }
+    ensures decided { IfSome (S.holds shelf.old) (λ blobs. is_free_status result ≡ false
+        → result ≡ outcome_status (outcome (map string_bytes words.now) blobs)) }
 
     // Where no count of faults rose, the status is the outcome's, but for want of memory.
-    ensures complete { (Rose (S.faults shelf.old) (S.faults shelf.new) → ⊥) → (Rose (S.write_faults shelf.old) (S.write_faults shelf.new) → ⊥) → (Rose (O.faults out.old) (O.faults out.new) → ⊥)
-        → IfSome (S.holds shelf.old) (λ blobs. result ≢ Status.Memory → result ≡ outcome_status (outcome (map string_bytes words.now) blobs)) }
+    ensures complete { (Rose (S.faults shelf.old) (S.faults shelf.new) → ⊥)
+        → (Rose (S.write_faults shelf.old) (S.write_faults shelf.new) → ⊥)
+        → (Rose (O.faults out.old) (O.faults out.new) → ⊥)
+        → IfSome (S.holds shelf.old) (λ blobs. result ≢ Status.Memory
+        → result ≡ outcome_status (outcome (map string_bytes words.now) blobs)) }
 
     // What failed outside was counted in this call.
-    ensures causes { StatusCauses (tally S.faults S.misses S.write_faults S.blamed shelf.old) (tally S.faults S.misses S.write_faults S.blamed shelf.new) (Rose (O.faults out.old) (O.faults out.new)) result }
+    ensures causes { StatusCauses
+        (tally S.faults S.misses S.write_faults S.blamed shelf.old)
+        (tally S.faults S.misses S.write_faults S.blamed shelf.new)
+        (Rose (O.faults out.old) (O.faults out.new))
+        result }
 
     // The whole: blobs after, bytes out, and the name that a failed read is blamed on.
     ensures ends { Ends (map string_bytes words.now) (S.holds shelf.old) (S.holds shelf.new)
-        (tally S.faults S.misses S.write_faults S.blamed shelf.old) (tally S.faults S.misses S.write_faults S.blamed shelf.new)
+        (tally S.faults S.misses S.write_faults S.blamed shelf.old)
+        (tally S.faults S.misses S.write_faults S.blamed shelf.new)
         result (Rose (O.faults out.old) (O.faults out.new)) (O.written out.old) (O.written out.new) }
 {
     match perform(alloc, words, shelf, prods, looks) {
@@ -72,7 +85,9 @@ fn perform<S: Shelf, P: Ledger, Q: Ledger>(
     looks: &mut Steps<Q>,
 ) -> Result<Done, Refusal>
     ensures { Performs (request_of (map string_bytes words.now)) (S.holds shelf.old) (S.holds shelf.new)
-        (tally S.faults S.misses S.write_faults S.blamed shelf.old) (tally S.faults S.misses S.write_faults S.blamed shelf.new) (done_text result) }
+        (tally S.faults S.misses S.write_faults S.blamed shelf.old)
+        (tally S.faults S.misses S.write_faults S.blamed shelf.new)
+        (done_text result) }
 {
     let Some(command) = read_words(words) else {
         return Err(Refusal::BadWords);
@@ -96,7 +111,9 @@ fn report<S: Shelf, P: Ledger, Q: Ledger>(
     requires reg { IsTrue (is_name reg.now) }
     requires word { IsTrue (is_name word.now) }
     ensures { Performs (Some (Accuse reg.now word.now c)) (S.holds shelf.old) (S.holds shelf.new)
-        (tally S.faults S.misses S.write_faults S.blamed shelf.old) (tally S.faults S.misses S.write_faults S.blamed shelf.new) (done_text result) }
+        (tally S.faults S.misses S.write_faults S.blamed shelf.old)
+        (tally S.faults S.misses S.write_faults S.blamed shelf.new)
+        (done_text result) }
 {
     match accuse(alloc, shelf, reg, word, c, prods, looks) {
         Ok(text) => Ok(Done::Report(text)),
@@ -116,7 +133,9 @@ fn make<S: Shelf, Q: Ledger>(
 ) -> Result<Done, Refusal>
     requires { IsTrue (is_name out.now) }
     ensures { Performs (Some (Make m k a b out.now)) (S.holds shelf.old) (S.holds shelf.new)
-        (tally S.faults S.misses S.write_faults S.blamed shelf.old) (tally S.faults S.misses S.write_faults S.blamed shelf.new) (done_text result) }
+        (tally S.faults S.misses S.write_faults S.blamed shelf.old)
+        (tally S.faults S.misses S.write_faults S.blamed shelf.new)
+        (done_text result) }
 {
     let text = match register_text_of(alloc, m, k, a, b, looks) {
         Ok(text) => text,
@@ -139,7 +158,9 @@ fn enrol<S: Shelf, Q: Ledger>(
     requires reg { IsTrue (is_name reg.now) }
     requires out { IsTrue (is_name out.now) }
     ensures { Performs (Some (Enrol reg.now name.now out.now)) (S.holds shelf.old) (S.holds shelf.new)
-        (tally S.faults S.misses S.write_faults S.blamed shelf.old) (tally S.faults S.misses S.write_faults S.blamed shelf.new) (done_text result) }
+        (tally S.faults S.misses S.write_faults S.blamed shelf.old)
+        (tally S.faults S.misses S.write_faults S.blamed shelf.new)
+        (done_text result) }
 {
     let text = match enrolled_text_of(alloc, shelf, reg, name, out, looks) {
         Ok(text) => text,

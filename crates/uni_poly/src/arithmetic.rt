@@ -12,7 +12,8 @@ use std::alloc::{AllocError, Global};
 impl<F: Field> Poly<F> {
     /// The sum, which is the difference too.
     pub fn add(&self, alloc: Global, other: &Poly<F>) -> Result<Poly<F>, Memory>
-        ensures { IfOk result (λ sum. IsListOf F.ring (λ k. F.ring.plus (coefficients F.ring self.now k) (coefficients F.ring other.now k)) sum) }
+        ensures { IfOk result (λ sum. IsListOf F.ring
+            (λ k. F.ring.plus (coefficients F.ring self.now k) (coefficients F.ring other.now k)) sum) }
     {
         let len = self.as_slice().len().max(other.as_slice().len());
         let mut sum = Vec::with_capacity(alloc, len)?;
@@ -29,7 +30,8 @@ impl<F: Field> Poly<F> {
         other: &Poly<F>,
         prods: &mut Steps<P>,
     ) -> Result<Poly<F>, Memory>
-        ensures value { IfOk result (λ p. IsListOf F.ring (product F.ring (coefficients F.ring self.now) (coefficients F.ring other.now)) p) }
+        ensures value { IfOk result (λ p. IsListOf F.ring
+            (product F.ring (coefficients F.ring self.now) (coefficients F.ring other.now)) p) }
         ensures products { prods.new ≤ prods.old + length self.now * length other.now }
     {
         let (left, right) = (self.as_slice(), other.as_slice());
@@ -56,7 +58,9 @@ pub(crate) fn zeros<F: Field>(alloc: Global, len: usize) -> Result<Vec<F>, Alloc
 fn add_product<F: Field, P: Ledger>(target: &mut [F], left: &[F], right: &[F], prods: &mut Steps<P>)
     requires room { length target.old ≡ length left.now + length right.now }
     requires zeros { (k : ℕ) → coefficients F.ring target.old k ≡ F.ring.nil }
-    ensures value { (k : ℕ) → coefficients F.ring target.new k ≡ product F.ring (coefficients F.ring left.now) (coefficients F.ring right.now) k }
+    ensures value { (k : ℕ) →
+        coefficients F.ring target.new k
+        ≡ product F.ring (coefficients F.ring left.now) (coefficients F.ring right.now) k }
     ensures products { prods.new ≡ prods.old + length left.now * length right.now }
 {
     'factors: for i in (0..left.len()).rev() {
@@ -64,8 +68,8 @@ fn add_product<F: Field, P: Ledger>(target: &mut [F], left: &[F], right: &[F], p
     }
 }
 
-/// Adds the factor times x^at times one polynomial to another, both as lists of coefficients with the lowest first. There is no
-/// coefficient past the end of `target`, so it has to be long enough.
+/// Adds the factor times x^at times one polynomial to another, both as lists of coefficients with the lowest first.
+/// There is no coefficient past the end of `target`, so it has to be long enough.
 pub fn add_shifted<F: Field, P: Ledger>(
     target: &mut [F],
     source: &[F],
@@ -76,7 +80,11 @@ pub fn add_shifted<F: Field, P: Ledger>(
     requires { at + length source.now ≤ length target.old }
     ensures length { length target.new ≡ length target.old }
     ensures before { (k : ℕ) → k < at → coefficients F.ring target.new k ≡ coefficients F.ring target.old k }
-    ensures from { (k : ℕ) → coefficients F.ring target.new (at + k) ≡ F.ring.plus (coefficients F.ring target.old (at + k)) (F.ring.times factor (coefficients F.ring source.now k)) }
+    ensures from { (k : ℕ) →
+        coefficients F.ring target.new (at + k)
+        ≡ F.ring.plus
+        (coefficients F.ring target.old (at + k))
+        (F.ring.times factor (coefficients F.ring source.now k)) }
     ensures products { prods.new ≡ prods.old + length source.now }
 {
     F::add_multiple(&mut target[at..at + source.len()], source, factor, prods);

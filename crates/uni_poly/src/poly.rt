@@ -64,7 +64,8 @@ impl<F: Field> Poly<F> {
 
     /// The greatest power with a coefficient that is not zero; none for the zero polynomial.
     pub fn degree(&self) -> Option<usize>
-        ensures { MatchOption result (self.now ≡ []) (λ d. (length self.now ≡ d + 1) × (coefficients F.ring self.now d ≢ F.ring.nil)) }
+        ensures { MatchOption result (self.now ≡ [])
+            (λ d. (length self.now ≡ d + 1) × (coefficients F.ring self.now d ≢ F.ring.nil)) }
     {
         self.coefs.len().checked_sub(1)
     }
