@@ -1,7 +1,7 @@
 //! The laws of registers and their texts: each is the contract of a function that does nothing.
 
 ghost use Rattle.std.specs.Prelude.{◌↔◌, ◌≡◌, ◌<◌, ◌*◌, ◌^◌, length, slice_get, Some, List, [], ◌∷◌, ◌++◌, ℕ, codes, Ok, Err};
-ghost use Rattle.register_terms.specs.Enrolment.{Enrolment, IsValid, message_of, serial_of};
+ghost use Rattle.register_terms.specs.Enrolment.{Enrolment, IsValid, capacity, message_of, serial_of};
 ghost use Rattle.register_terms.specs.RegisterText.{register_text, register_of, fault};
 ghost use Rattle.register_terms.specs.declared.fault.RegisterKind.TheVariants.{Ending, Header, BadM, NameTaken};
 
@@ -9,6 +9,8 @@ ghost use Rattle.register_terms.specs.declared.fault.RegisterKind.TheVariants.{E
 pub fn worked_examples()
     ensures written { register_text (record { bits = 4; dimension = 2; multiplier = 1; shift = 0; names = [] }) ≡ codes "register 1\nm 4\nk 2\na 1\nb 0\n" }
     ensures read { register_of (codes "register 1\nm 4\nk 2\na 1\nb 0\nlic0\nlic1\n") ≡ Ok (record { bits = 4; dimension = 2; multiplier = 1; shift = 0; names = codes "lic0" ∷ codes "lic1" ∷ [] }) }
+    ensures few_messages { capacity (record { bits = 4; dimension = 2; multiplier = 1; shift = 0; names = [] }) ≡ 256 }
+    ensures many_messages { capacity (record { bits = 8; dimension = 3; multiplier = 1; shift = 0; names = [] }) ≡ 200000 }
     ensures bad_bits { register_of (codes "register 1\nm 9\nk 2\na 1\nb 0\n") ≡ Err (fault 2 BadM) }
     ensures taken { register_of (codes "register 1\nm 4\nk 2\na 1\nb 0\nlic0\nlic0\n") ≡ Err (fault 7 NameTaken) }
     ensures cut_between { register_of (codes "register 1\nm 4\nk 2\n") ≡ Err (fault 4 Header) }

@@ -3,9 +3,11 @@
 //! The laws over these definitions are the contracts of functions with an empty body.
 #![tactic(auto)]
 
-ghost use Rattle.std.specs.Prelude.{Bool, false, List, ℕ};
+ghost use Rattle.std.specs.Prelude.{◌≡◌, Bool, false, List, [], ◌∷◌, ℕ};
 ghost use Rattle.shelf_terms.specs.Counts.{Tally};
+ghost use Rattle.shelf_terms.specs.Blobs.{part_of};
 ghost use Rattle.shelf_terms.specs.Causes.{ReadCauses, WriteCauses};
+ghost use Rattle.shelf_terms.specs.Puts.{Puts};
 
 /// A read that was answered, and a read after it: of both together the causes are those of the second.
 pub fn reads_compose()
@@ -21,4 +23,13 @@ pub fn writes_compose()
         → WriteCauses a b false
         → WriteCauses b c failed
         → WriteCauses a c failed }
+{}
+
+/// Parts of a blob, and what stands in an output when half of a text was put, worked out by hand.
+pub fn worked_examples()
+    ensures within { part_of (1 ∷ 2 ∷ 3 ∷ 4 ∷ 5 ∷ []) 1 3 ≡ 2 ∷ 3 ∷ 4 ∷ [] }
+    ensures cut_at_the_end { part_of (1 ∷ 2 ∷ 3 ∷ 4 ∷ 5 ∷ []) 3 10 ≡ 4 ∷ 5 ∷ [] }
+    ensures past_the_end { part_of (1 ∷ 2 ∷ 3 ∷ 4 ∷ 5 ∷ []) 5 2 ≡ [] }
+    ensures half { Puts (7 ∷ 8 ∷ []) (7 ∷ 8 ∷ 1 ∷ 2 ∷ []) (1 ∷ 2 ∷ 3 ∷ 4 ∷ []) }
+    ensures none { Puts (7 ∷ 8 ∷ []) (7 ∷ 8 ∷ []) (1 ∷ 2 ∷ []) }
 {}

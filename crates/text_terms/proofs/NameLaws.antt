@@ -61,9 +61,17 @@ plain_is_name text is =
 printable_byte : (b : ℕ) → is_printable b ≡ true → 32 ≤ b
 printable_byte b is = grind (arith, nat_tests)
 
+printable_below : (b : ℕ) → is_printable b ≡ true → b ≢ 127
+printable_below b is = grind (arith, nat_tests)
+
 -- a name has no control character, and so no line feed
 pub name_bytes : (text : List ℕ) → is_name text ≡ true → All (λ b. 32 ≤ b) text
 name_bytes text is k d inside = printable_byte _ (AllPass-from_list_all is_printable text (name_form text is).printable k d inside)
+
+pub name_no_control : (text : List ℕ) → is_name text ≡ true → All (λ b. (32 ≤ b) × (b ≢ 127)) text
+name_no_control text is k d inside =
+    let printable = AllPass-from_list_all is_printable text (name_form text is).printable k d inside in
+    (printable_byte _ printable, printable_below _ printable)
 
 pub name_no_line_feed : (text : List ℕ) → is_name text ≡ true → All (λ b. b ≢ 10) text
 name_no_line_feed text is k d inside = λ e. omega (arith, name_bytes text is k d inside, e)

@@ -3,7 +3,7 @@
 //! The laws over these definitions are the contracts of functions with an empty body.
 #![tactic(auto)]
 
-ghost use Rattle.std.specs.Prelude.{◌≡◌, ◌≢◌, ◌<◌, ◌^◌, ℕ, List, true, Some, All};
+ghost use Rattle.std.specs.Prelude.{◌≡◌, ◌≢◌, ◌<◌, ◌≤◌, ◌^◌, ℕ, List, length, true, Some, All};
 ghost use Rattle.std.specs.Fmt.{decimal};
 ghost use Rattle.text_terms.specs.Names.{is_name, is_plain};
 ghost use Rattle.text_terms.specs.Numbers.{number_of};
@@ -15,8 +15,11 @@ pub fn spelling_is_unique()
     ensures below { (text : List ℕ) (n : ℕ) → number_of text ≡ Some n → n < 2 ^ 128 }
 {}
 
-/// A plain name is a name too, and no name breaks a line.
+/// A plain name is a name too, and no name is empty, is longer than 1,024 bytes, has a control character, or breaks a line.
 pub fn names_fit_lines()
     ensures plain { (text : List ℕ) → is_plain text ≡ true → is_name text ≡ true }
+    ensures some { (text : List ℕ) → is_name text ≡ true → 1 ≤ length text }
+    ensures most { (text : List ℕ) → is_name text ≡ true → length text ≤ 1024 }
+    ensures no_control { (text : List ℕ) → is_name text ≡ true → All (λ b. (32 ≤ b) × (b ≢ 127)) text }
     ensures no_line_feed { (text : List ℕ) → is_name text ≡ true → All (λ b. b ≢ 10) text }
 {}

@@ -35,6 +35,15 @@ pub returns-clause-lost_place : goal.returns-clause-lost_place
 unfolding findings report_text accused_text agreement_of places_of symbol_of power product reduction reduced carryless digits
 returns-clause-lost_place c = refl
 
+pub returns-clause-allowed : goal.returns-clause-allowed
+returns-clause-allowed c = refl
+
+pub returns-clause-allowed_of_eight : goal.returns-clause-allowed_of_eight
+returns-clause-allowed_of_eight c = refl
+
+pub returns-clause-most_allowed : goal.returns-clause-most_allowed
+returns-clause-most_allowed c = refl
+
 pub returns-clause-whole_copy : goal.returns-clause-whole_copy
 unfolding findings report_text accused_text agreement_of places_of symbol_of power product reduction reduced carryless digits
 returns-clause-whole_copy c = refl

@@ -10,6 +10,12 @@ pub returns-clause-read : goal.returns-clause-read
 unfolding header_at names_at
 returns-clause-read c = refl
 
+pub returns-clause-few_messages : goal.returns-clause-few_messages
+returns-clause-few_messages c = refl
+
+pub returns-clause-many_messages : goal.returns-clause-many_messages
+returns-clause-many_messages c = refl
+
 pub returns-clause-bad_bits : goal.returns-clause-bad_bits
 unfolding header_at names_at
 returns-clause-bad_bits c = refl
