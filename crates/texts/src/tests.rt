@@ -1,6 +1,7 @@
-//! Numbers, names and text.
+//! Each public call on its happy path, and the edges of the rules.
 
-use crate::{Text, is_name, is_plain, number_text, read_number};
+use crate::{is_name, is_plain, number_text, read_number};
+use lists::Text;
 use std::test::Fail;
 
 #[test]

@@ -1,7 +1,7 @@
 use Rattle.std.proofs.Common.{rules, ◌≡◌, ◌∙◌, true}
 use Rattle.text_terms.specs.Numbers.{is_numeral}
-use Rattle.shelf_io.proofs.Numerals.{parsed_numeral}
-use Rattle.shelf_io.proofs.numbers.read_number.Goals as goal
+use Rattle.texts.proofs.Numerals.{parsed_numeral}
+use Rattle.texts.proofs.numbers.read_number.Goals as goal
 
 pub returns : goal.returns
 returns c =
