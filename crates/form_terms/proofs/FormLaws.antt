@@ -6,7 +6,7 @@ use Rattle.std.proofs.lemmas.Bool.{eqb-true}
 use Rattle.std.proofs.lemmas.List.{nil_from_length}
 use Rattle.form_terms.specs.declared.fault.LineFault.{LineFault}
 use Rattle.form_terms.specs.TextLines.{line, ended_lines, rest_of, number_after}
-use Rattle.form_terms.specs.Forms.{Place, place, before, Form, fault, then_at, followed, ◌>>=◌, give, require, line_in, next_line, said, RowKinds, row, number_row, rows_after, the_end, found_in, read_by}
+use Rattle.form_terms.specs.Forms.{Place, place, before, Form, fault, then_at, followed, ◌>>=◌, give, require, demand, lines_left, line_in, next_line, said, RowKinds, row, number_row, rows_after, the_end, found_in, read_by}
 use Rattle.form_terms.proofs.LineLaws.{OneLine, lines_and_rest, lines_again, no_rest, number_after-is, number_after-line}
 
 -- these lines were taken from the front
@@ -67,6 +67,10 @@ pub gave : {K A : Type 0} {x y : A} {at after : Place} → (let form : Form K A 
 unfolding give
 gave {K} e = same_found {K = K} e
 
+pub given : {K A : Type 0} (x : A) (at : Place) → (let form : Form K A = give x in form at) ≡ Ok (x, at)
+unfolding give
+given x at = refl
+
 pub record Met (is_so : Bool) (at after : Place) : Type 0 where
   pub is : is_so ≡ true
   pub same : at ≡ after
@@ -82,6 +86,19 @@ met {K} {is_so} kind {at} {after} {u} e = met_by is_so kind at after u e
 pub meets : {K : Type 0} {is_so : Bool} (kind : K) (at : Place) → is_so ≡ true → require is_so kind at ≡ Ok (tt, at)
 unfolding require
 meets kind at is = rw is refl
+
+pub record Unhindered {K : Type 0} (hindrance : Option K) (at after : Place) : Type 0 where
+  pub is : hindrance ≡ None
+  pub same : at ≡ after
+
+pub demanded : {K : Type 0} (hindrance : Option K) {at after : Place} {u : Unit {0}} → demand hindrance at ≡ Ok (u, after) → Unhindered hindrance at after
+unfolding demand
+demanded {K} None {at} {after} {u} e = record { is = refl; same = (same_found {K = K} e).same }
+demanded (Some kind) e = absurd cc
+
+pub unhindered : {K : Type 0} (hindrance : Option K) (at : Place) → hindrance ≡ None → demand hindrance at ≡ Ok (tt, at)
+unfolding demand
+unhindered hindrance at none = rw none refl
 
 -- ---- lines
 
@@ -194,6 +211,10 @@ rows_again {K} form spelling Keeps one past (x ∷ more) number lines tail keeps
     let count : number + 1 + length more ≡ number + suc (length more) = omega arith in
     join (form past) _ first (rest ∙ rw (grouped, count) refl)
 
+pub counted : {K : Type 0} {at after : Place} {count : ℕ} → (let form : Form K ℕ = lines_left in form at) ≡ Ok (count, after) → at ≡ after
+unfolding lines_left
+counted {K} e = (same_found {K = K} e).same
+
 -- ---- the end
 
 pub record Ended (at after : Place) : Type 0 where
@@ -234,8 +255,8 @@ found_by {K} {A} (Ok y) x e = let same : y.0 ≡ x = ok_is y.0 x e in (y.1, ap (
     ok_is y x e = cc
 found_by (Err refusal) x e = absurd cc
 
-pub text_read : {K A : Type 0} {form : Form K A} {bytes : List ℕ} {x : A} → read_by form bytes ≡ Ok x → Read form bytes x
-text_read {K} {A} {form} {bytes} {x} e =
+pub text_read : {K A : Type 0} (form : Form K A) (bytes : List ℕ) {x : A} → read_by form bytes ≡ Ok x → Read form bytes x
+text_read {K} {A} form bytes {x} e =
     let by = found_by (form (before 0 bytes)) x e in
     record { after = by.0; is = by.1 }
 

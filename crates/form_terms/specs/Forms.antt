@@ -50,6 +50,11 @@ give x at = Ok (x, at)
 unfoldable pub require : {K : Type 0} → Bool → K → Form K (Unit {0})
 require is_so kind at = if is_so then Ok (tt, at) else Err (fault at.number kind)
 
+-- nothing may stand against the line that was read last
+unfoldable pub demand : {K : Type 0} → Option K → Form K (Unit {0})
+demand None at = Ok (tt, at)
+demand (Some kind) at = Err (fault at.number kind)
+
 -- ---- lines
 
 -- what is wrong where a line is not there: nothing follows, or bytes that no line feed ends

@@ -1,7 +1,7 @@
 pub mod Places
 pub mod Serials
 pub mod Growing
-pub mod Lines
-pub mod Fields
-pub mod Read
+pub mod HeaderLines
+pub mod LicenseeLines
+pub mod Texts
 pub mod Messages

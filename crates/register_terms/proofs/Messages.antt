@@ -65,5 +65,5 @@ messages_differ e valid i j i_below j_below same =
     ]
 
 -- each enrolled serial is below the number of messages
-pub enrolled-below : (e : Enrolment) → IsValid e → (serial : ℕ) → serial < length e.names → serial < message_count e
+pub enrolled-below : (e : Enrolment) → IsValid e → (serial : ℕ) → serial < length e.licensees → serial < message_count e
 enrolled-below e valid serial lt = omega (arith, valid.room, min-le_left (message_count e) 200000)

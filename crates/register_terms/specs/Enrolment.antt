@@ -1,16 +1,24 @@
 -- What a register of licensees is: the code that its messages belong to, the rule that gives each serial its message, and
--- the names in the order in which they were enrolled. A licensee's serial is the place of its name. This project's own.
-use Rattle.std.specs.Prelude.{◌≡◌, ◌≢◌, ℕ, ◌+◌, ◌*◌, ◌%◌, ◌^◌, ◌<◌, ◌≤◌, true, List, length, Option, min}
+-- the licensees in the order in which they were enrolled. A licensee's serial is its place. This project's own.
+use Rattle.std.specs.Prelude.{◌≡◌, ◌≢◌, ℕ, ◌+◌, ◌*◌, ◌%◌, ◌^◌, ◌<◌, ◌≤◌, Bool, true, List, length, map, Option, min}
 use Rattle.std.specs.List.{All, AllPairs, position}
 use Rattle.std.specs.Str.{bytes_eq}
 use Rattle.text_terms.specs.Names.{is_plain}
+
+-- someone who was enrolled: a name, and whether the licence is held still. A licensee that is not active is withdrawn.
+pub record Licensee : Type 0 where
+  pub name : List ℕ
+  pub active : Bool
 
 pub record Enrolment : Type 0 where
   pub bits : ℕ
   pub dimension : ℕ
   pub multiplier : ℕ
   pub shift : ℕ
-  pub names : List (List ℕ)
+  pub licensees : List Licensee
+
+abbrev pub names_of : List Licensee → List (List ℕ)
+names_of licensees = map (λ x. x.name) licensees
 
 -- how many messages there are: a message is so many symbols of so many bits
 abbrev pub message_count : Enrolment → ℕ
@@ -36,6 +44,6 @@ pub record IsValid (e : Enrolment) : Type 0 where
   pub odd : e.multiplier % 2 ≡ 1
   pub multiplier_below : e.multiplier < message_count e
   pub shift_below : e.shift < message_count e
-  pub plain : All (λ name. is_plain name ≡ true) e.names
-  pub distinct : AllPairs (λ x y. x ≢ y) e.names
-  pub room : length e.names ≤ capacity e
+  pub plain : All (λ name. is_plain name ≡ true) (names_of e.licensees)
+  pub distinct : AllPairs (λ x y. x ≢ y) (names_of e.licensees)
+  pub room : length e.licensees ≤ capacity e

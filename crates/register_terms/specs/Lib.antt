@@ -1,2 +1,3 @@
 pub mod Enrolment
+pub mod Rules
 pub mod RegisterText

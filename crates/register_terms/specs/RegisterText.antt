@@ -1,122 +1,116 @@
--- The text that a register is kept as, and what is wrong with any other text. Each valid register has one text.
--- This project's own.
-use Rattle.std.specs.Prelude.{ℕ, ◌+◌, ◌*◌, ◌%◌, ◌^◌, Bool, ◌&&◌, ◌==◌, nat_le, nat_lt, if◌then◌else◌, List, [], ◌∷◌, ◌++◌, length, take, drop, codes, Option, Some, None, Result, Ok, Err}
-use Rattle.std.specs.List.{flat_map, slice_split}
-use Rattle.std.specs.Option.{is_some, ok_or}
+-- The two texts of a register, and what is wrong with any other text. This project's own.
+-- The newer text says of each licensee whether the licence is held, and is the one that is written. The older one has the
+-- names alone, and is read still; so only a register in which nobody is withdrawn has it.
+use Rattle.std.specs.Prelude.{◌≡◌, ℕ, Bool, true, false, if◌then◌else◌, List, [], ◌∷◌, ◌++◌, map, codes, Option, Some, None, Result}
+use Rattle.std.specs.List.{All, flat_map}
+use Rattle.std.specs.Option.{option_map, option_or}
 use Rattle.std.specs.Str.{bytes_eq}
 use Rattle.std.specs.Fmt.{decimal}
-use Rattle.text_terms.specs.Names.{is_plain}
-use Rattle.text_terms.specs.Numbers.{number_of}
-use Rattle.register_terms.specs.declared.fault.RegisterFault.{RegisterFault}
+use Rattle.form_terms.specs.declared.fault.LineFault.{LineFault}
+use Rattle.form_terms.specs.TextLines.{line, after_word}
+use Rattle.form_terms.specs.Forms.{Form, RowKinds, ◌>>=◌, ◌>>◌, give, row, number_row, demand, rows_after, lines_left, the_end, read_by}
 use Rattle.register_terms.specs.declared.fault.RegisterKind.{RegisterKind}
-use Rattle.register_terms.specs.declared.fault.RegisterKind.TheVariants.{Ending, Header, BadM, BadK, BadMultiplier, BadShift, BadName, NameTaken, Full}
-use Rattle.register_terms.specs.Enrolment.{Enrolment, capacity, serial_of}
+use Rattle.register_terms.specs.declared.fault.RegisterKind.TheVariants.{Ending, Header, BadM, BadK, BadMultiplier, BadShift, BadStatus}
+use Rattle.register_terms.specs.Enrolment.{Licensee, Enrolment}
+use Rattle.register_terms.specs.Rules.{are_bits, is_dimension, is_multiplier, is_shift, empty_register, with_licensees, refusal_of}
 
--- ---- the text of a register
+-- ---- the texts
 
--- a line of these bytes
-abbrev pub line : List ℕ → List ℕ
-line text = text ++ 10 ∷ []
+pub data Edition : Type 0 where
+  Newer : Edition
+  Older : Edition
 
--- a line of a word and a number
-abbrev pub number_line : List ℕ → ℕ → List ℕ
-number_line word n = line (word ++ decimal n)
+abbrev pub edition_line : Edition → List ℕ
+edition_line Newer = codes "register 2"
+edition_line Older = codes "register 1"
 
--- the lines before the names
-abbrev pub header_text : Enrolment → List ℕ
-header_text e =
-    line (codes "register 1") ++ (number_line (codes "m ") e.bits ++ (number_line (codes "k ") e.dimension ++ (number_line (codes "a ") e.multiplier ++ number_line (codes "b ") e.shift)))
+-- the lines before the licensees
+abbrev pub header_lines : Edition → Enrolment → List (List ℕ)
+header_lines edition e =
+    edition_line edition
+    ∷ (codes "m " ++ decimal e.bits)
+    ∷ (codes "k " ++ decimal e.dimension)
+    ∷ (codes "a " ++ decimal e.multiplier)
+    ∷ (codes "b " ++ decimal e.shift)
+    ∷ []
 
--- the header, and then one name on each line
-abbrev pub register_text : Enrolment → List ℕ
-register_text e = header_text e ++ flat_map line e.names
+abbrev pub state_word : Bool → List ℕ
+state_word active = if active then codes "active " else codes "withdrawn "
 
--- ---- reading, with the first fault
+-- the line of a licensee
+abbrev pub licensee_line : Edition → Licensee → List ℕ
+licensee_line Newer x = state_word x.active ++ x.name
+licensee_line Older x = x.name
 
-infixl 10 ◌>>=◌
-abbrev pub ◌>>=◌ : {A B : Type 0} → Result A RegisterFault → (A → Result B RegisterFault) → Result B RegisterFault
-(Ok x) >>= f = f x
-(Err e) >>= f = Err e
+abbrev pub register_lines : Edition → Enrolment → List (List ℕ)
+register_lines edition e = header_lines edition e ++ map (licensee_line edition) e.licensees
 
-abbrev pub fault : ℕ → RegisterKind → RegisterFault
-fault number kind = record { line = number; kind = kind }
+-- the text that is written
+unfoldable pub register_text : Enrolment → List ℕ
+register_text e = flat_map line (register_lines Newer e)
 
--- The parts of a text between its line feeds. Each part is a line, but the last one only where it is not empty, and then no
--- line feed ends it.
-abbrev pub parts_of : List ℕ → List (List ℕ)
-parts_of bytes = slice_split (λ b. b == 10) bytes
+unfoldable pub older_text : Enrolment → List ℕ
+older_text e = flat_map line (register_lines Older e)
 
--- a line that has to be there, which is the first of these parts, and the parts after it
-abbrev pub line_at : ℕ → List (List ℕ) → Result (List ℕ × List (List ℕ)) RegisterFault
-line_at number [] = Err (fault number Header)
-line_at number (last ∷ []) = if length last == 0 then Err (fault number Header) else Err (fault number Ending)
-line_at number (text ∷ next ∷ parts) = Ok (text, next ∷ parts)
+-- the bytes are a text of the register
+pub data IsTextOf (e : Enrolment) (bytes : List ℕ) : Type 0 where
+  newer : bytes ≡ register_text e → IsTextOf e bytes
+  older : All (λ x. x.active ≡ true) e.licensees → bytes ≡ older_text e → IsTextOf e bytes
 
--- the number that follows a word
-abbrev pub number_after : List ℕ → List ℕ → Option ℕ
-number_after word text = if bytes_eq (take (length word) text) word then number_of (drop (length word) text) else None
+abbrev pub RegisterFault : Type 0
+RegisterFault = LineFault RegisterKind
 
--- a line that is a word and a number
-abbrev pub number_line_at : ℕ → List ℕ → List (List ℕ) → Result (ℕ × List (List ℕ)) RegisterFault
-number_line_at number word parts = do
-  first ← line_at number parts
-  n ← ok_or (number_after word first.0) (fault number Header)
-  Ok (n, first.1)
+-- ---- what single lines say
 
--- the number that was found, where it is allowed
-abbrev pub within : (ℕ → Bool) → RegisterFault → ℕ × List (List ℕ) → Result (ℕ × List (List ℕ)) RegisterFault
-within allowed refusal found = if allowed found.0 then Ok found else Err refusal
+abbrev pub edition_in : List ℕ → Option Edition
+edition_in text = if bytes_eq text (codes "register 2") then Some Newer else (if bytes_eq text (codes "register 1") then Some Older else None)
 
--- the first line, which names the form
-abbrev pub form_line_at : List (List ℕ) → Result (List (List ℕ)) RegisterFault
-form_line_at parts = do
-  first ← line_at 1 parts
-  if bytes_eq first.0 (codes "register 1") then Ok first.1 else Err (fault 1 Header)
+abbrev pub in_state : Bool → List ℕ → Licensee
+in_state active name = record { name = name; active = active }
 
-abbrev pub are_bits : ℕ → Bool
-are_bits m = nat_le 4 m && nat_le m 8
+abbrev pub licensee_in : Edition → List ℕ → Option Licensee
+licensee_in Newer text = option_or (option_map (in_state true) (after_word (codes "active ") text)) (option_map (in_state false) (after_word (codes "withdrawn ") text))
+licensee_in Older text = Some (in_state true text)
 
-abbrev pub is_dimension : ℕ → Bool
-is_dimension k = nat_le 2 k && nat_le k 13
+-- ---- the form, from the first line to the last
 
-abbrev pub is_multiplier : ℕ → ℕ → ℕ → Bool
-is_multiplier m k a = (a % 2 == 1) && nat_lt a (2 ^ (m * k))
+-- one of the first five lines
+abbrev pub header : RowKinds RegisterKind
+header = record { missing = Header; unended = Ending; wrong = Header }
 
-abbrev pub is_shift : ℕ → ℕ → ℕ → Bool
-is_shift m k b = nat_lt b (2 ^ (m * k))
+unfoldable pub header_form : Form RegisterKind (Edition × Enrolment)
+header_form = do
+  edition ← row header edition_in
+  m ← number_row header (codes "m ") are_bits BadM
+  k ← number_row header (codes "k ") is_dimension BadK
+  a ← number_row header (codes "a ") (is_multiplier m k) BadMultiplier
+  b ← number_row header (codes "b ") (is_shift m k) BadShift
+  give (edition, empty_register m k a b)
 
--- the first five lines, and the parts after them: a register without licensees
-unfoldable pub header_at : List (List ℕ) → Result (Enrolment × List (List ℕ)) RegisterFault
-header_at parts = do
-  form ← form_line_at parts
-  m ← number_line_at 2 (codes "m ") form >>= within are_bits (fault 2 BadM)
-  k ← number_line_at 3 (codes "k ") m.1 >>= within is_dimension (fault 3 BadK)
-  a ← number_line_at 4 (codes "a ") k.1 >>= within (is_multiplier m.0 k.0) (fault 4 BadMultiplier)
-  b ← number_line_at 5 (codes "b ") a.1 >>= within (is_shift m.0 k.0) (fault 5 BadShift)
-  Ok (record { bits = m.0; dimension = k.0; multiplier = a.0; shift = b.0; names = [] }, b.1)
+-- a later line
+abbrev pub later : RowKinds RegisterKind
+later = record { missing = Header; unended = Ending; wrong = BadStatus }
 
--- the register with one more licensee, added last
-abbrev pub with_name : Enrolment → List ℕ → Enrolment
-with_name e name = record e { names = e.names ++ name ∷ [] }
+-- the licensee behind these, who may be enrolled
+unfoldable pub licensee_row : Edition → Enrolment → List Licensee → Form RegisterKind Licensee
+licensee_row edition e past = do
+  x ← row later (licensee_in edition)
+  demand (refusal_of (with_licensees e past) x.name)
+  give x
 
--- why a name is not enrolled
-abbrev pub refusal_of : Enrolment → List ℕ → Option RegisterKind
-refusal_of e name =
-    if is_plain name then (if is_some (serial_of e.names name) then Some NameTaken else (if nat_lt (length e.names) (capacity e) then None else Some Full)) else Some BadName
+-- as many licensees as there are lines left, and no byte behind them
+unfoldable pub licensees_form : Edition → Enrolment → List Licensee → Form RegisterKind Enrolment
+licensees_form edition e past = do
+  count ← lines_left
+  licensees ← rows_after past count (licensee_row edition e)
+  the_end Ending
+  give (with_licensees e licensees)
 
--- the licensee that stands on the line of the next serial, which is 6 more than the serial
-abbrev pub enrolled_at : Enrolment → List ℕ → Option RegisterKind → Result Enrolment RegisterFault
-enrolled_at e name None = Ok (with_name e name)
-enrolled_at e name (Some kind) = Err (fault (6 + length e.names) kind)
-
--- the lines of the names that follow those which the register already has
-unfoldable pub names_at : Enrolment → List (List ℕ) → Result Enrolment RegisterFault
-names_at e [] = Ok e
-names_at e (last ∷ []) = if length last == 0 then Ok e else Err (fault (6 + length e.names) Ending)
-names_at e (name ∷ next ∷ parts) = enrolled_at e name (refusal_of e name) >>= λ more. names_at more (next ∷ parts)
+unfoldable pub register_form : Form RegisterKind Enrolment
+register_form = do
+  found ← header_form
+  licensees_form found.0 found.1 []
 
 -- the register that a text spells, or the first line that breaks the form with the first thing that is wrong with it
-abbrev pub register_of : List ℕ → Result Enrolment RegisterFault
-register_of bytes = do
-  header ← header_at (parts_of bytes)
-  names_at header.0 header.1
+unfoldable pub register_of : List ℕ → Result Enrolment RegisterFault
+register_of bytes = read_by register_form bytes

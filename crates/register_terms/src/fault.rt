@@ -1,5 +1,7 @@
 //! Why a text is no register.
 
+use form_terms::LineFault;
+
 /// What is wrong with a line of a register's text.
 ///
 /// Where several of these fit a line, the one that stands first here is reported.
@@ -17,7 +19,9 @@ pub enum RegisterKind {
     BadMultiplier,
     /// The shift is no message.
     BadShift,
-    /// The line is no plain name; bytes that are no UTF-8 are none either.
+    /// The line begins with no state of a licensee.
+    BadStatus,
+    /// The name is no plain name; bytes that are no UTF-8 are none either.
     BadName,
     /// An earlier line has the same name.
     NameTaken,
@@ -25,11 +29,5 @@ pub enum RegisterKind {
     Full,
 }
 
-/// The first line of a register's text that breaks the form.
-#[derive(Clone, Copy, Debug, PartialEq, Eq)]
-pub struct RegisterFault {
-    /// The number of the line, counted from 1.
-    pub line: u32,
-    /// The first thing that is wrong with it.
-    pub kind: RegisterKind,
-}
+/// The first line of a register's text that breaks the form, counted from 1, and the first thing that is wrong with it.
+pub type RegisterFault = LineFault<RegisterKind>;
