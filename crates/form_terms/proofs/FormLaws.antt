@@ -5,8 +5,9 @@ use Rattle.std.specs.List.{All, flat_map}
 use Rattle.std.proofs.lemmas.Bool.{eqb-true}
 use Rattle.std.proofs.lemmas.List.{nil_from_length}
 use Rattle.form_terms.specs.declared.fault.LineFault.{LineFault}
+use Rattle.form_terms.specs.declared.fault.RowKinds.{RowKinds}
 use Rattle.form_terms.specs.TextLines.{line, ended_lines, rest_of, number_after}
-use Rattle.form_terms.specs.Forms.{Place, place, before, Form, fault, then_at, followed, ◌>>=◌, give, require, demand, lines_left, line_in, next_line, said, RowKinds, row, number_row, rows_after, the_end, found_in, read_by}
+use Rattle.form_terms.specs.Forms.{Place, place, before, Form, fault, then_at, followed, ◌>>=◌, give, require, demand, lines_left, line_in, next_line, said, row, number_row, rows_after, the_end, found_in, read_by}
 use Rattle.form_terms.proofs.LineLaws.{OneLine, lines_and_rest, lines_again, no_rest, number_after-is, number_after-line}
 
 -- these lines were taken from the front

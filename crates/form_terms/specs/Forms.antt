@@ -2,6 +2,7 @@
 -- A text that has not its form is refused for the first line that breaks it, with a kind of fault `K`.
 use Rattle.std.specs.Prelude.{ℕ, zero, suc, ◌+◌, Bool, ◌==◌, if◌then◌else◌, List, [], ◌∷◌, ◌++◌, length, Option, Some, None, Result, Ok, Err}
 use Rattle.form_terms.specs.declared.fault.LineFault.{LineFault}
+use Rattle.form_terms.specs.declared.fault.RowKinds.{RowKinds}
 use Rattle.form_terms.specs.TextLines.{ended_lines, rest_of, number_after}
 
 -- how many lines were read, the lines behind them, and the bytes behind the last line feed
@@ -73,15 +74,6 @@ next_line missing unended at = line_in missing unended at.number at.lines at.tai
 unfoldable pub said : {K A : Type 0} → K → Option A → Form K A
 said wrong (Some x) at = Ok (x, at)
 said wrong None at = Err (fault at.number wrong)
-
--- how a row is refused
-pub record RowKinds (K : Type 0) : Type 0 where
-  -- no byte is left
-  pub missing : K
-  -- no line feed ends the bytes that are left
-  pub unended : K
-  -- the line has not its form
-  pub wrong : K
 
 -- one line that says something
 unfoldable pub row : {K A : Type 0} → RowKinds K → (List ℕ → Option A) → Form K A

@@ -8,5 +8,5 @@
 mod fault;
 mod laws;
 
-pub use fault::LineFault;
+pub use fault::{LineFault, RowKinds};
 pub use laws::{lines_are_cut_again, texts_are_their_lines};

@@ -1,24 +1,23 @@
--- How the index of names belongs to the register that keeps it.
-use Rattle.std.specs.Prelude.{◌≡◌, ℕ, List, map}
-use Rattle.std.specs.HashMap.{HashMap, get_by_text}
+-- How the entries of an index from names to states stand for licensees: the place of an entry is the serial.
+use Rattle.std.specs.Prelude.{ℕ, Bool, List, map}
 use Rattle.std.specs.declared.string.String.{String}
+use Rattle.std.specs.String.{string_bytes}
 use Rattle.lic_register.specs.declared.licensee.Licensee.{Licensee}
 use Rattle.lic_register.specs.declared.rule.Rule.{Rule}
-use Rattle.register_terms.specs.Enrolment.{Enrolment, IsValid, serial_of}
+use Rattle.register_terms.specs.Enrolment.{Enrolment}
+use Rattle.register_terms.specs.Enrolment as terms
 
--- the names of these licensees
-abbrev pub names_of : List Licensee → List (List ℕ)
-names_of licensees = map (λ x. x.name) licensees
+-- the licensee that an entry stands for
+abbrev pub entry_licensee : {Y : Type 0} → String Y × Bool → terms.Licensee
+entry_licensee entry = record { name = string_bytes entry.0; active = entry.1 }
 
--- the register of these numbers and names
-abbrev pub with_licensees : Rule → List (List ℕ) → Enrolment
-with_licensees rule names = record { bits = rule.bits; dimension = rule.dimension; multiplier = rule.multiplier; shift = rule.shift; names = names }
+abbrev pub entry_licensees : {Y : Type 0} → List (String Y × Bool) → List terms.Licensee
+entry_licensees entries = map entry_licensee entries
 
--- the index has at each text the serial of that name, and nothing at a text that is no licensee's name
-abbrev pub IsIndexOf : {Y S : Type 0} → HashMap (String Y) ℕ S → List (List ℕ) → Type 0
-IsIndexOf index names = (text : List ℕ) → get_by_text index text ≡ serial_of names text
+-- the licensee that is shown
+abbrev pub shown : Licensee → terms.Licensee
+shown x = record { name = x.name.now; active = x.active }
 
--- what is kept: a valid register, and the index of its names
-pub record IsKept {Y S : Type 0} (e : Enrolment) (index : HashMap (String Y) ℕ S) : Type 0 where
-  pub valid : IsValid e
-  pub indexed : IsIndexOf index e.names
+-- the register of these numbers and licensees
+abbrev pub register_with : Rule → List terms.Licensee → Enrolment
+register_with rule licensees = record { bits = rule.bits; dimension = rule.dimension; multiplier = rule.multiplier; shift = rule.shift; licensees = licensees }

@@ -58,6 +58,15 @@ impl<T: Drop> From<AllocFailed<T>> for EnrolError {
     }
 }
 
+/// Why nobody was withdrawn: the first of these that applies.
+#[derive(Clone, Copy, Debug, PartialEq, Eq)]
+pub enum WithdrawError {
+    /// No licensee has the name.
+    Unknown,
+    /// The licensee of this serial, who has the name, is withdrawn.
+    Already(u32),
+}
+
 /// Why no register was read.
 #[derive(Clone, Copy, Debug, PartialEq, Eq)]
 pub enum RegisterReadError {

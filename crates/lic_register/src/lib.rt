@@ -1,17 +1,19 @@
-//! Registers of licensees: who is enrolled, and which message each licensee's copies carry.
+//! Registers of licensees: who is enrolled, who was withdrawn, and which message each licensee's copies carry.
 //!
 //! A register belongs to a code, and has a rule that gives each serial its message. It is kept as a text, which `read` and
 //! `write` tell one from another exactly. Its entries are seen by counted look-ups alone.
 #![tactic(auto)]
 
+mod enrolling;
 mod errors;
 mod licensee;
+mod looking;
 mod reading;
 mod register;
 mod rule;
 mod writing;
 
-pub use errors::{EnrolError, RegisterError, RegisterReadError};
+pub use errors::{EnrolError, RegisterError, RegisterReadError, WithdrawError};
 pub use licensee::Licensee;
 pub use register::Register;
 pub use register_terms::{RegisterFault, RegisterKind};

@@ -1,9 +1,10 @@
 //! Who holds a licence.
 
-use lists::Text;
-
-/// Someone who was given copies, known by a plain name.
-#[derive(Debug, Drop)]
-pub struct Licensee {
-    pub name: Text,
+/// Someone who was given copies, as a register shows them: known by a plain name, and either active or withdrawn.
+#[derive(Clone, Copy, Debug, PartialEq, Eq)]
+pub struct Licensee<'a> {
+    /// The name, which no other licensee of the register has.
+    pub name: &'a str,
+    /// Whether the licence is held still.
+    pub active: bool,
 }

@@ -1,103 +1,100 @@
 //! A register from its text.
 
-ghost use Rattle.std.specs.Prelude.{◌≡◌, ◌<◌, length, IfOk, IfSome, MatchOption, MatchResult, Ok, [], ◌∷◌, ◌==◌, ◌+◌};
-ghost use Rattle.std.specs.List.{position};
-ghost use Rattle.text_terms.specs.Numbers.{number_of};
-ghost use Rattle.register_terms.specs.RegisterText.{parts_of, line_at, form_line_at, number_line_at, number_after, header_at, register_of, register_text, enrolled_at, refusal_of};
+ghost use Rattle.std.specs.Prelude.{◌≡◌, ◌<◌, ◌≤◌, ◌+◌, ◌==◌, ◌^◌, false, length, IfOk, OnOk, Ok};
+ghost use Rattle.std.specs.Option.{option_map};
+ghost use Rattle.register_terms.specs.declared.edition.Edition.TheVariants.{Newer};
+ghost use Rattle.form_terms.specs.TextLines.{number_after};
+ghost use Rattle.form_terms.specs.Forms.{place, before, number_row, row};
+ghost use Rattle.register_terms.specs.Rules.{are_bits, is_dimension, is_multiplier, is_shift};
+ghost use Rattle.register_terms.specs.RegisterText.{IsTextOf, edition_in, header, header_form, licensee_in, later, register_of};
 ghost use Rattle.register_terms.specs.Enrolment.{Enrolment, IsValid};
-ghost use Rattle.lic_register.specs.Answers.{ReadsAs, IsRefused};
-ghost use Rattle.lic_register.specs.Parts.{Finds, register_by, IsAllowed};
+ghost use Rattle.line_reader.specs.Finds.{Finds};
+ghost use Rattle.lic_register.specs.Answers.{ReadsAs};
+ghost use Rattle.lic_register.specs.Parts.{register_by, IsAllowed, GoesOn, Admits, read_licensee};
 
 use crate::errors::{EnrolError, RegisterReadError};
 use crate::register::Register;
-use crate::rule::{Rule, are_bits, is_dimension, is_multiplier, message_count};
-use register_terms::{RegisterFault, RegisterKind};
-use texts::read_number;
+use crate::rule::{MOST_LICENSEES, Rule, are_bits, is_dimension, is_multiplier, message_count};
+use line_reader::{Lines, RowKinds};
+use register_terms::{Edition, RegisterFault, RegisterKind};
 use std::alloc::Global;
 use std::str;
 
-/// The number of the line on which the first licensee's name stands.
-const FIRST_NAME_LINE: u32 = 6;
+/// How one of the first five lines is refused.
+const HEADER: RowKinds<RegisterKind> = RowKinds {
+    missing: RegisterKind::Header,
+    unended: RegisterKind::Ending,
+    wrong: RegisterKind::Header,
+};
+
+/// What a later line says.
+#[derive(Clone, Copy)]
+pub(crate) struct LicenseeLine<'a> {
+    pub(crate) name: &'a [u8],
+    pub(crate) active: bool,
+}
+
+/// Why a licensee was not admitted.
+#[derive(Clone, Copy)]
+pub(crate) enum Hindrance {
+    /// The line has this fault.
+    Kind(RegisterKind),
+    /// There was not enough memory.
+    Memory,
+}
 
 impl Register {
-    /// The register that the bytes are the text of. It takes no look.
+    /// The register that the bytes are a text of. It takes no look.
     pub fn read(alloc: Global, bytes: &[u8]) -> Result<Register, RegisterReadError>
         // Which register it is, or which fault.
         ensures answer { ReadsAs result (register_of bytes.now) }
-        // What is read is valid, and the bytes are its text.
-        ensures found { IfOk result (λ register. IsValid register × (bytes.now ≡ register_text register)) }
-        // The text of a valid register is read, unless memory runs out.
-        ensures every { (e : Enrolment) → IsValid e → bytes.now ≡ register_text e → ReadsAs result (Ok e) }
+        // What is read is valid, and the bytes are one of its texts.
+        ensures found { IfOk result (λ register. IsValid register × IsTextOf register bytes.now) }
+        // Each text of a valid register is read, unless memory runs out.
+        ensures every { (e : Enrolment) → IsValid e → IsTextOf e bytes.now → ReadsAs result (Ok e) }
     {
         register_in(alloc, bytes)
     }
 }
 
-/// The register by the header, with the name on each line after it.
+/// The register by the first five lines, with the licensee on each line after them.
 fn register_in(alloc: Global, bytes: &[u8]) -> Result<Register, RegisterReadError>
     ensures { ReadsAs result (register_of bytes.now) }
 {
-    let (rule, names) = header(bytes)?;
+    let mut lines = Lines::of(bytes);
+    let (edition, rule) = first_lines(&mut lines)?;
     let mut register = Register::by_rule(alloc, rule);
-    let mut rest = names;
-    while !rest.is_empty() {
-        let line = next_line(&register);
-        let Some((text, after)) = cut_line(rest) else {
-            return Err(fault(line, RegisterKind::Ending).into());
-        };
-        enrol_line(&mut register, text)?;
-        rest = after;
+    while !lines.is_over() {
+        enrol_line(&mut register, edition, &mut lines)?;
     }
     Ok(register)
 }
 
-/// The number of the line on which the next licensee's name stands.
-fn next_line(register: &Register) -> u32
-    ensures { result ≡ 6 + length register.now.names }
+/// Which text it is, and the numbers on the first five lines.
+#[tactic(auto, unfolding(register_terms::specs::RegisterText::header_form, form_terms::specs::Forms::number_row, form_terms::specs::Forms::followed, form_terms::specs::Forms::require, form_terms::specs::Forms::give))]
+fn first_lines(lines: &mut Lines) -> Result<(Edition, Rule), RegisterFault>
+    requires start { lines.old.number ≡ 0 }
+    ensures found { Finds (λ x. (x.0, register_by x.1)) result lines.old lines.new header_form }
+    ensures allowed { IfOk result (λ x. IsAllowed x.1) }
+    ensures counted { OnOk result (lines.new.number ≡ 5) }
 {
-    FIRST_NAME_LINE + register.len()
-}
-
-/// Enrols the name that stands on the next line.
-fn enrol_line(register: &mut Register, text: &[u8]) -> Result<(), RegisterReadError>
-    ensures { let wanted = enrolled_at register.old text.now (refusal_of register.old text.now) in MatchResult result (λ _. wanted ≡ Ok register.new) (λ e. IsRefused e wanted) }
-{
-    let line = next_line(register);
-    let Ok(name) = str::from_utf8(text) else {
-        return Err(fault(line, RegisterKind::BadName).into());
-    };
-    match register.enrol(name) {
-        Ok(_) => Ok(()),
-        Err(EnrolError::BadName) => Err(fault(line, RegisterKind::BadName).into()),
-        Err(EnrolError::NameTaken(_)) => Err(fault(line, RegisterKind::NameTaken).into()),
-        Err(EnrolError::Full(_)) => Err(fault(line, RegisterKind::Full).into()),
-        Err(EnrolError::Memory) => Err(RegisterReadError::Memory),
-    }
-}
-
-/// The numbers on the first five lines, and the bytes after these.
-#[tactic(auto, unfolding(register_terms::specs::RegisterText::header_at))]
-fn header(bytes: &[u8]) -> Result<(Rule, &[u8]), RegisterFault>
-    ensures found { Finds (λ x. (register_by x.0, parts_of x.1.now)) result (header_at (parts_of bytes.now)) }
-    ensures allowed { IfOk result (λ x. IsAllowed x.0) }
-{
-    let rest = form_line(bytes)?;
-    let (bits, rest) = number_line(rest, 2, b"m ")?;
+    let edition = edition_line(lines)?;
+    let bits = lines.number_row(HEADER, b"m ")?;
     if !are_bits(bits) {
-        return Err(fault(2, RegisterKind::BadM));
+        return Err(lines.fault(RegisterKind::BadM));
     }
-    let (dimension, rest) = number_line(rest, 3, b"k ")?;
+    let dimension = lines.number_row(HEADER, b"k ")?;
     if !is_dimension(dimension) {
-        return Err(fault(3, RegisterKind::BadK));
+        return Err(lines.fault(RegisterKind::BadK));
     }
     let messages = message_count(bits as u32, dimension as u32);
-    let (multiplier, rest) = number_line(rest, 4, b"a ")?;
+    let multiplier = lines.number_row(HEADER, b"a ")?;
     if !is_multiplier(multiplier, messages) {
-        return Err(fault(4, RegisterKind::BadMultiplier));
+        return Err(lines.fault(RegisterKind::BadMultiplier));
     }
-    let (shift, rest) = number_line(rest, 5, b"b ")?;
+    let shift = lines.number_row(HEADER, b"b ")?;
     if shift >= messages {
-        return Err(fault(5, RegisterKind::BadShift));
+        return Err(lines.fault(RegisterKind::BadShift));
     }
     let rule = Rule {
         bits: bits as u32,
@@ -105,81 +102,98 @@ fn header(bytes: &[u8]) -> Result<(Rule, &[u8]), RegisterFault>
         multiplier,
         shift,
     };
-    Ok((rule, rest))
+    Ok((edition, rule))
 }
 
-/// The bytes after the line that names the form.
-fn form_line(bytes: &[u8]) -> Result<&[u8], RegisterFault>
-    ensures { Finds (λ rest. parts_of rest.now) result (form_line_at (parts_of bytes.now)) }
+/// The line that says which text it is.
+#[tactic(auto, unfolding(form_terms::specs::Forms::row, form_terms::specs::Forms::followed, form_terms::specs::Forms::said))]
+fn edition_line(lines: &mut Lines) -> Result<Edition, RegisterFault>
+    requires room { lines.old.number + 1 < 2 ^ 32 }
+    ensures found { Finds (λ x. x) result lines.old lines.new (row header edition_in) }
+    ensures counted { OnOk result (lines.new.number ≡ lines.old.number + 1) }
 {
-    let (text, rest) = line_of(bytes, 1)?;
-    if text != b"register 1".as_slice() {
-        return Err(fault(1, RegisterKind::Header));
+    let text = lines.next_line(RegisterKind::Header, RegisterKind::Ending)?;
+    if text == b"register 2".as_slice() {
+        return Ok(Edition::Newer);
     }
-    Ok(rest)
+    if text == b"register 1".as_slice() {
+        return Ok(Edition::Older);
+    }
+    Err(lines.fault(RegisterKind::Header))
 }
 
-/// The number on a line of a word and a number, and the bytes after the line.
-fn number_line<'a>(
-    bytes: &'a [u8],
-    line: u32,
-    word: &[u8],
-) -> Result<(u128, &'a [u8]), RegisterFault>
-    ensures { Finds (λ x. (x.0, parts_of x.1.now)) result (number_line_at line word.now (parts_of bytes.now)) }
+/// Enrols the licensee that stands on the next line.
+fn enrol_line(
+    register: &mut Register,
+    edition: Edition,
+    lines: &mut Lines,
+) -> Result<(), RegisterReadError>
+    requires more { (length lines.old.lines + length lines.old.tail == 0) ≡ false }
+    requires place { lines.old.number ≡ 5 + length register.old.licensees }
+    ensures goes_on { GoesOn result edition register.old register.new lines.old lines.new }
+    ensures counted { OnOk result (lines.new.number ≡ 5 + length register.new.licensees) }
+    ensures fewer { OnOk result (length lines.new.lines < length lines.old.lines) }
 {
-    let (text, rest) = line_of(bytes, line)?;
-    let Some(number) = number_after(word, text) else {
-        return Err(fault(line, RegisterKind::Header));
+    let few = register.len() <= MOST_LICENSEES;
+    prove!(few);
+    let line = licensee_line(edition, lines)?;
+    match admit(register, &line) {
+        Ok(()) => Ok(()),
+        Err(Hindrance::Kind(kind)) => Err(lines.fault(kind).into()),
+        Err(Hindrance::Memory) => Err(RegisterReadError::Memory),
+    }
+}
+
+/// The state and the name on the next line.
+#[tactic(auto, unfolding(form_terms::specs::Forms::row, form_terms::specs::Forms::followed, form_terms::specs::Forms::said))]
+fn licensee_line<'a>(
+    edition: Edition,
+    lines: &mut Lines<'a>,
+) -> Result<LicenseeLine<'a>, RegisterFault>
+    requires room { lines.old.number + 1 < 2 ^ 32 }
+    ensures found { Finds read_licensee result lines.old lines.new (row later (licensee_in edition)) }
+    ensures counted { OnOk result (lines.new.number ≡ lines.old.number + 1) }
+    ensures fewer { OnOk result (length lines.new.lines < length lines.old.lines) }
+{
+    let text = lines.next_line(RegisterKind::Header, RegisterKind::Ending)?;
+    match edition {
+        Edition::Older => Ok(LicenseeLine {
+            name: text,
+            active: true,
+        }),
+        Edition::Newer => match state_and_name(text) {
+            Some(line) => Ok(line),
+            None => Err(lines.fault(RegisterKind::BadStatus)),
+        },
+    }
+}
+
+/// The state and the name of a line of the newer text.
+fn state_and_name(text: &[u8]) -> Option<LicenseeLine<'_>>
+    ensures { option_map read_licensee result ≡ licensee_in Newer text.now }
+{
+    if let Some(name) = text.strip_prefix(b"active ".as_slice()) {
+        return Some(LicenseeLine { name, active: true });
+    }
+    let name = text.strip_prefix(b"withdrawn ".as_slice())?;
+    Some(LicenseeLine {
+        name,
+        active: false,
+    })
+}
+
+/// Enrols the name in its state.
+fn admit(register: &mut Register, line: &LicenseeLine) -> Result<(), Hindrance>
+    ensures { Admits result register.old register.new line.now.name.now line.now.active }
+{
+    let Ok(name) = str::from_utf8(line.name) else {
+        return Err(Hindrance::Kind(RegisterKind::BadName));
     };
-    Ok((number, rest))
-}
-
-/// The number that follows a word.
-fn number_after(word: &[u8], text: &[u8]) -> Option<u128>
-    ensures { result ≡ number_after word.now text.now }
-{
-    number_in(text.strip_prefix(word)?)
-}
-
-/// The number that the bytes spell.
-fn number_in(bytes: &[u8]) -> Option<u128>
-    ensures { result ≡ number_of bytes.now }
-{
-    match str::from_utf8(bytes) {
-        Ok(text) => read_number(text),
-        Err(_) => None,
+    match register.admit(name, line.active) {
+        Ok(_) => Ok(()),
+        Err(EnrolError::BadName) => Err(Hindrance::Kind(RegisterKind::BadName)),
+        Err(EnrolError::NameTaken(_)) => Err(Hindrance::Kind(RegisterKind::NameTaken)),
+        Err(EnrolError::Full(_)) => Err(Hindrance::Kind(RegisterKind::Full)),
+        Err(EnrolError::Memory) => Err(Hindrance::Memory),
     }
-}
-
-/// The text of a line that has to be there, and the bytes after it.
-fn line_of(bytes: &[u8], line: u32) -> Result<(&[u8], &[u8]), RegisterFault>
-    ensures { Finds (λ x. (x.0.now, parts_of x.1.now)) result (line_at line (parts_of bytes.now)) }
-{
-    match cut_line(bytes) {
-        Some((text, after)) => Ok((text, after)),
-        None if bytes.is_empty() => Err(fault(line, RegisterKind::Header)),
-        None => Err(fault(line, RegisterKind::Ending)),
-    }
-}
-
-/// The bytes before the first line feed and those after it; `None` where there is none.
-fn cut_line(bytes: &[u8]) -> Option<(&[u8], &[u8])>
-    ensures parts { MatchOption result (parts_of bytes.now ≡ bytes.now ∷ []) (λ cut. parts_of bytes.now ≡ cut.0.now ∷ parts_of cut.1.now) }
-    ensures shorter { IfSome result (λ cut. length cut.1.now < length bytes.now) }
-{
-    let end = line_feed(bytes)?;
-    Some((&bytes[..end], &bytes[end + 1..]))
-}
-
-/// The place of the first line feed.
-fn line_feed(bytes: &[u8]) -> Option<usize>
-    ensures { result ≡ position (λ b. b == 10) bytes.now }
-{
-    bytes.iter().position(|byte| *byte == b'\n')
-}
-
-fn fault(line: u32, kind: RegisterKind) -> RegisterFault
-    ensures { result ≡ record { line = line; kind = kind } }
-{
-    RegisterFault { line, kind }
 }

@@ -1,48 +1,39 @@
 //! A register in memory.
 
-ghost use Rattle.std.specs.Prelude.{◌≡◌, ◌+◌, ◌*◌, ◌%◌, ◌^◌, ◌≤◌, ◌==◌, ◌&&◌, None, nat_lt, length, min, slice_get, IfOk, IfErr, OnOk, OnErr, if◌then◌else◌};
-ghost use Rattle.std.specs.Option.{option_copied, option_map};
+ghost use Rattle.std.specs.Prelude.{◌≡◌, ◌≤◌, ◌<◌, IfOk, length};
 ghost use Rattle.std.specs.Result.{result_err};
-ghost use Rattle.register_terms.specs.Enrolment.{serial_of, message_of, IsValid};
-ghost use Rattle.register_terms.specs.RegisterText.{refusal_of, with_name, are_bits, is_dimension};
-ghost use Rattle.lic_register.specs.Answers.{refused_by, empty_register, enrolment_of, EnrolsAs};
-ghost use Rattle.lic_register.specs.Index.{names_of};
+ghost use Rattle.register_terms.specs.Enrolment.{IsValid};
+ghost use Rattle.register_terms.specs.Rules.{empty_register};
+ghost use Rattle.lic_register.specs.Answers.{refused_by};
 ghost use Rattle.lic_register.specs.Parts.{register_by, IsAllowed};
-ghost use Rattle.lic_register.specs.declared.errors.EnrolError.TheVariants as enrol_errors;
 
-use crate::errors::{EnrolError, RegisterError};
-use crate::licensee::Licensee;
+use crate::errors::RegisterError;
 use crate::rule::Rule;
-use code_terms::Message;
-use lists::Text;
-use texts::is_plain;
+use indexmap::IndexMap;
 use std::alloc::Global;
-use std::collections::HashMap;
 use std::marker::Model;
-use steps::{Ledger, Steps};
 
 /// A register of licensees, which contracts see as the numbers of its code, the rule of its messages and the list of its
-/// names. The place of a name is the licensee's serial.
+/// licensees. The place of a licensee in the list is the serial.
 ///
-/// It keeps an index from names to serials, so no look-up walks over the licensees.
+/// It keeps one index from names to states, in the order of enrolment, so no look-up walks over the licensees.
 #[derive(Drop)]
 pub struct Register {
-    alloc: Global,
-    rule: Rule,
-    licensees: Vec<Licensee>,
-    serials: HashMap<String, u32>,
+    pub(crate) alloc: Global,
+    pub(crate) rule: Rule,
+    pub(crate) licensees: IndexMap<String, bool>,
 }
 
 impl Model for Register {
-    ghost use Rattle.register_terms.specs.Enrolment.{Enrolment};
+    ghost use Rattle.register_terms.specs.Enrolment.{Enrolment, IsValid};
 
     ghost Value = { Enrolment };
 
-    ghost use Rattle.lic_register.specs.Index.{names_of, with_licensees, IsKept};
+    ghost use Rattle.lic_register.specs.Index.{entry_licensees, register_with};
 
-    ghost view = { λ r. with_licensees r.rule (names_of r.licensees.items) };
+    ghost view = { λ r. register_with r.rule (entry_licensees r.licensees.entries) };
 
-    ghost invariant = { λ r. IsKept (with_licensees r.rule (names_of r.licensees.items)) r.serials };
+    ghost invariant = { λ r. IsValid (register_with r.rule (entry_licensees r.licensees.entries)) };
 }
 
 impl Register {
@@ -72,114 +63,34 @@ impl Register {
         Register {
             alloc,
             rule,
-            licensees: Vec::new(alloc),
-            serials: HashMap::new(alloc),
+            licensees: IndexMap::new(alloc),
         }
-    }
-
-    /// The numbers of this register.
-    pub(crate) fn rule(&self) -> Rule
-        ensures { result ≡ record { bits = self.now.bits; dimension = self.now.dimension; multiplier = self.now.multiplier; shift = self.now.shift } }
-    {
-        self.rule
-    }
-
-    /// All licensees, in order of serial.
-    pub(crate) fn licensees(&self) -> &[Licensee]
-        ensures { names_of result.now ≡ self.now.names }
-    {
-        self.licensees.as_slice()
     }
 
     /// The bits of a symbol, 4 to 8.
     pub fn bits(&self) -> u32
-        ensures { result ≡ self.now.bits }
+        ensures value { result ≡ self.now.bits }
+        ensures low { 4 ≤ result }
+        ensures high { result ≤ 8 }
     {
         self.rule.bits
     }
 
     /// How many symbols a message has, 2 to 13.
     pub fn dimension(&self) -> u32
-        ensures { result ≡ self.now.dimension }
+        ensures value { result ≡ self.now.dimension }
+        ensures low { 2 ≤ result }
+        ensures high { result ≤ 13 }
     {
         self.rule.dimension
     }
 
-    /// The number of licensees.
+    /// The number of licensees, active and withdrawn.
     pub fn len(&self) -> u32
-        ensures number { result ≡ length self.now.names }
+        ensures number { result ≡ length self.now.licensees }
+        ensures few { result ≤ 200000 }
         ensures valid { IsValid self.now }
     {
         self.licensees.len() as u32
-    }
-
-    /// The licensee of this serial; `None` where nobody has it. This is one look.
-    pub fn entry<Q: Ledger>(&self, serial: u32, looks: &mut Steps<Q>) -> Option<&Licensee>
-        ensures found { option_map (λ x. x.name) (option_copied result) ≡ slice_get self.now.names serial }
-        ensures looks { looks.new ≡ looks.old + 1 }
-    {
-        looks.tick();
-        self.licensees.get(serial as usize)
-    }
-
-    /// The serial of the licensee with this name; `None` where nobody has it. This is one look.
-    pub fn serial_of<Q: Ledger>(&self, name: &str, looks: &mut Steps<Q>) -> Option<u32>
-        ensures found { result ≡ serial_of self.now.names name.now }
-        ensures looks { looks.new ≡ looks.old + 1 }
-    {
-        looks.tick();
-        self.serials.get(name).copied()
-    }
-
-    /// The message of this serial; `None` where nobody has the serial. This is one look.
-    pub fn message_of<Q: Ledger>(&self, serial: u32, looks: &mut Steps<Q>) -> Option<Message>
-        ensures found { result ≡ (if nat_lt serial (length self.now.names) then Some (message_of self.now serial) else None) }
-        ensures looks { looks.new ≡ looks.old + 1 }
-    {
-        looks.tick();
-        if serial >= self.licensees.len() as u32 {
-            return None;
-        }
-        let number = self.rule.multiplier * u128::from(serial) + self.rule.shift;
-        Some(Message::of(number % self.rule.message_count()))
-    }
-
-    /// Enrols a plain name, and answers its serial, which is the number of licensees before. A refused name leaves the
-    /// register as it was.
-    pub fn enrol(&mut self, name: &str) -> Result<u32, EnrolError>
-        ensures answer { EnrolsAs result (enrolment_of self.old name.now) }
-        ensures enrolled { OnOk result (self.new ≡ with_name self.old name.now) }
-        ensures refused { OnErr result (self.new ≡ self.old) }
-    {
-        if !is_plain(name) {
-            return Err(EnrolError::BadName);
-        }
-        if let Some(serial) = self.serials.get(name) {
-            return Err(EnrolError::NameTaken(*serial));
-        }
-        let serial = self.licensees.len() as u32;
-        if serial >= self.rule.capacity() {
-            return Err(EnrolError::Full(serial));
-        }
-        self.add(name)?;
-        Ok(serial)
-    }
-
-    /// Adds a name that is not refused as the last one. Where memory is wanting, nothing changes.
-    fn add(&mut self, name: &str) -> Result<(), EnrolError>
-        requires { refusal_of self.old name.now ≡ None }
-        ensures added { OnOk result (self.new ≡ with_name self.old name.now) }
-        ensures memory { IfErr result (λ e. e ≡ enrol_errors.Memory) }
-        ensures kept { OnErr result (self.new ≡ self.old) }
-    {
-        let serial = self.licensees.len() as u32;
-        let licensee = Licensee {
-            name: Text::of(self.alloc, name)?,
-        };
-        let key = String::from_str(self.alloc, name)?;
-        self.licensees.reserve(1)?;
-        self.serials.insert(key, serial)?;
-        self.licensees.push(licensee).unwrap();
-        Ok(())
     }
 }

@@ -1,13 +1,13 @@
 //! The numbers of a register, and the rules on them.
 
 ghost use Rattle.std.specs.Prelude.{◌≡◌, ◌*◌, ◌%◌, ◌^◌, ◌≤◌, ◌==◌, ◌&&◌, nat_lt, min};
-ghost use Rattle.register_terms.specs.RegisterText.{are_bits, is_dimension};
+ghost use Rattle.register_terms.specs.Rules.{are_bits, is_dimension};
 ghost use Rattle.lic_register.specs.Answers.{refused_by};
 
 use crate::errors::RegisterError;
 
 /// No register holds more licensees.
-const MOST_LICENSEES: u128 = 200_000;
+pub(crate) const MOST_LICENSEES: u32 = 200_000;
 
 /// The numbers of a register: its code, and the rule of its messages.
 #[derive(Clone, Copy, Debug, PartialEq, Eq)]
@@ -54,7 +54,7 @@ impl Rule {
         requires dimension { self.now.dimension ≤ 13 }
         ensures { result ≡ min (2 ^ (self.now.bits * self.now.dimension)) 200000 }
     {
-        self.message_count().min(MOST_LICENSEES) as u32
+        self.message_count().min(u128::from(MOST_LICENSEES)) as u32
     }
 }
 

@@ -2,7 +2,10 @@
 
 ghost use Rattle.std.specs.Prelude.{◌≡◌, ◌<◌};
 
-use crate::{EnrolError, Register, RegisterError, RegisterFault, RegisterKind, RegisterReadError};
+use crate::{
+    EnrolError, Register, RegisterError, RegisterFault, RegisterKind, RegisterReadError,
+    WithdrawError,
+};
 use std::alloc::Global;
 use std::marker::Brand;
 use std::process::Abort;
@@ -13,8 +16,14 @@ use steps::{Ledger, Steps};
 const TWENTY: &[u8] =
     b"register 1\nm 4\nk 2\na 1\nb 0\nlic0\nlic1\nlic2\nlic3\nlic4\nlic5\nlic6\nlic7\nlic8\nlic9\nlic10\nlic11\nlic12\nlic13\nlic14\nlic15\nlic16\nlic17\nlic18\nlic19\n";
 
+const FOUR: &[u8] =
+    b"register 2\nm 4\nk 2\na 1\nb 0\nactive lic0\nwithdrawn lic1\nactive lic2\nactive lic3\n";
+
+const THEN: &[u8] =
+    b"register 2\nm 4\nk 2\na 1\nb 0\nactive lic0\nwithdrawn lic1\nwithdrawn lic2\nactive lic3\n";
+
 /// Twenty licensees whose messages are their serials.
-fn reads_and_writes<Q: Ledger>(rt: &impl Abort, alloc: Global, blank: Blank) -> Result<(), Fail>
+fn reads_and_looks<Q: Ledger>(rt: &impl Abort, alloc: Global, blank: Blank) -> Result<(), Fail>
     requires name { blank.name ≡ Q.name }
     requires parts { blank.parts ≡ Q.parts }
     requires some { 0 < Q.parts }
@@ -29,18 +38,45 @@ fn reads_and_writes<Q: Ledger>(rt: &impl Abort, alloc: Global, blank: Blank) -> 
     assert_eq!(rt; message.ok_or("no serial 16")?.number(), 16);
     assert!(rt; register.message_of(20, &mut looks).is_none());
     let licensee = register.entry(16, &mut looks).ok_or("no serial 16")?;
-    assert_eq!(rt; licensee.name.as_str(), "lic16");
+    assert_eq!(rt; licensee.name, "lic16");
+    assert!(rt; licensee.active);
     assert!(rt; register.entry(20, &mut looks).is_none());
     assert_eq!(rt; register.serial_of("lic19", &mut looks), Some(19));
     assert_eq!(rt; register.serial_of("lic20", &mut looks), None);
-    let text = register.write(alloc, &mut looks)?;
-    assert!(rt; text.as_slice() == TWENTY);
+    Ok(())
+}
+
+#[test]
+fn reads_the_older_text(rt: HostRuntime) -> Result<(), Fail> {
+    reads_and_looks::<Brand>(&rt, rt.alloc(), Blank::new(1))
+}
+
+/// Four licensees, of whom the second is withdrawn at first, and then the third.
+fn withdraws<Q: Ledger>(rt: &impl Abort, alloc: Global, blank: Blank) -> Result<(), Fail>
+    requires name { blank.name ≡ Q.name }
+    requires parts { blank.parts ≡ Q.parts }
+    requires some { 0 < Q.parts }
+{
+    let mut looks = Steps::<Q>::new(blank);
+    let mut register = Register::read(alloc, FOUR)?;
+    assert!(rt; register.write(&mut looks)?.as_slice() == FOUR);
+    assert_eq!(rt;
+        register.withdraw("lic4", &mut looks),
+        Err(WithdrawError::Unknown)
+    );
+    assert_eq!(rt;
+        register.withdraw("lic1", &mut looks),
+        Err(WithdrawError::Already(1))
+    );
+    assert_eq!(rt; register.withdraw("lic2", &mut looks), Ok(2));
+    assert_eq!(rt; register.enrol("lic2"), Err(EnrolError::NameTaken(2)));
+    assert!(rt; register.write(&mut looks)?.as_slice() == THEN);
     Ok(())
 }
 
 #[test]
 fn reads_what_it_writes(rt: HostRuntime) -> Result<(), Fail> {
-    reads_and_writes::<Brand>(&rt, rt.alloc(), Blank::new(1))
+    withdraws::<Brand>(&rt, rt.alloc(), Blank::new(1))
 }
 
 /// The message of serial 7 is 12345 times 7 and 678, taken by 2^15.
@@ -98,10 +134,42 @@ fn refuses_names(rt: HostRuntime) -> Result<(), Fail> {
 
 #[test]
 fn names_the_first_fault(rt: HostRuntime) -> Result<(), Fail> {
-    let faults: [(&[u8], u32, RegisterKind); 22] = [
+    let faults: [(&[u8], u32, RegisterKind); 30] = [
         (b"", 1, RegisterKind::Header),
         (b"register 1", 1, RegisterKind::Ending),
-        (b"register 2\n", 1, RegisterKind::Header),
+        (b"register 3\n", 1, RegisterKind::Header),
+        (b"register 2\n", 2, RegisterKind::Header),
+        (b"register 2\nm 4\nk 2\na 1\n", 5, RegisterKind::Header),
+        (
+            b"register 2\nm 4\nk 2\na 1\nb 0\nlic0\n",
+            6,
+            RegisterKind::BadStatus,
+        ),
+        (
+            b"register 2\nm 4\nk 2\na 1\nb 0\nactive lic0\nactive  lic1\n",
+            7,
+            RegisterKind::BadName,
+        ),
+        (
+            b"register 2\nm 4\nk 2\na 1\nb 0\nactive a\nwithdrawn a\n",
+            7,
+            RegisterKind::NameTaken,
+        ),
+        (
+            b"register 2\nm 4\nk 2\na 1\nb 0\nactive\n",
+            6,
+            RegisterKind::BadStatus,
+        ),
+        (
+            b"register 2\nm 4\nk 2\na 1\nb 0\nactive \n",
+            6,
+            RegisterKind::BadName,
+        ),
+        (
+            b"register 2\nm 4\nk 2\na 1\nb 0\nactive \xff\n",
+            6,
+            RegisterKind::BadName,
+        ),
         (b"register 1\n", 2, RegisterKind::Header),
         (b"register 1\nm 9", 2, RegisterKind::Ending),
         (b"register 1\nm 9\n", 2, RegisterKind::BadM),
@@ -184,4 +252,44 @@ fn finds_one_name_too_many(rt: HostRuntime) -> Result<(), Fail> {
     };
     assert_eq!(rt; answer, Some(RegisterReadError::NotRegister(fault)));
     Ok(())
+}
+
+/// Either text, cut behind each of its lines and within each.
+#[test]
+fn tells_where_a_text_is_cut(rt: HostRuntime) {
+    for text in [TWENTY, FOUR] {
+        for length in 0..text.len() {
+            let answer = Register::read(rt.alloc(), text.get(..length).unwrap_or(text));
+            assert_eq!(rt; told(&answer), wanted_of(text, length), "{length}");
+        }
+    }
+}
+
+/// The line and the kind of a fault; or the line behind the last licensee.
+fn told(answer: &Result<Register, RegisterReadError>) -> (u32, Option<RegisterKind>) {
+    match answer {
+        Ok(register) => (register.len() + 6, None),
+        Err(RegisterReadError::NotRegister(fault)) => (fault.line, Some(fault.kind)),
+        Err(RegisterReadError::Memory) => (0, None),
+    }
+}
+
+/// The line at which a text ends that is cut there: within the line it has no ending, and behind it the next line is
+/// missing or, from the sixth on, nothing is.
+fn wanted_of(text: &[u8], length: usize) -> (u32, Option<RegisterKind>) {
+    let mut line = 1;
+    let mut ended = true;
+    for byte in text.iter().take(length) {
+        ended = *byte == b'\n';
+        line = next_line(line, ended);
+    }
+    match (ended, line) {
+        (false, _) => (line, Some(RegisterKind::Ending)),
+        (true, 0..=5) => (line, Some(RegisterKind::Header)),
+        (true, _) => (line, None),
+    }
+}
+
+fn next_line(line: u32, ended: bool) -> u32 {
+    if ended { line.saturating_add(1) } else { line }
 }

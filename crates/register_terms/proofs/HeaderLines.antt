@@ -1,18 +1,20 @@
 -- The first five lines: what is written is read, and what is read was written.
-use Rattle.std.proofs.Common.{◌≡◌, ◌≢◌, ℕ, ◌+◌, ◌*◌, ◌%◌, ◌^◌, ◌<◌, ◌≤◌, Bool, true, false, cond, eqb, codes, List, [], ◌∷◌, ◌++◌, Option, Some, None, Ok, refl, sym, ap, ◌∙◌, subst, arith}
+use Rattle.std.proofs.Common.{◌≡◌, ℕ, ◌*◌, ◌%◌, ◌^◌, ◌≤◌, Bool, true, false, cond, eqb, codes, List, [], ◌∷◌, ◌++◌, Some, None, Ok, refl, subst, arith}
 use Rattle.std.specs.Prelude.{nat_le, nat_lt}
 use Rattle.std.specs.Str.{bytes_eq}
 use Rattle.std.specs.Fmt.{decimal}
 use Rattle.std.proofs.Math.Pow.{pow_mono}
 use Rattle.std.proofs.Math.Nat.{mul-le-mul}
 use Rattle.std.proofs.lemmas.Bool.{and_parts, and_from, eqb-true, eq-eqb, ltb-true, lt-ltb, leb-true, le-leb}
-use Rattle.form_terms.specs.Forms.{Place, place, ◌>>=◌, row, number_row}
+use Rattle.form_terms.specs.Forms.{Place, place, row, number_row}
 use Rattle.form_terms.proofs.LineLaws.{same_bytes}
 use Rattle.form_terms.proofs.FormLaws.{Took, took_then, split, join, gave, given, line_read, line_again, number_read, number_again}
 use Rattle.register_terms.specs.declared.fault.RegisterKind.TheVariants.{BadM, BadK, BadMultiplier, BadShift}
+use Rattle.register_terms.specs.declared.edition.Edition.{Edition}
+use Rattle.register_terms.specs.declared.edition.Edition.TheVariants.{Newer, Older}
 use Rattle.register_terms.specs.Enrolment.{Enrolment, IsValid, message_count}
 use Rattle.register_terms.specs.Rules.{are_bits, is_dimension, is_multiplier, is_shift, empty_register, with_licensees}
-use Rattle.register_terms.specs.RegisterText.{Edition, Newer, Older, edition_line, edition_in, header, header_lines, header_form}
+use Rattle.register_terms.specs.RegisterText.{edition_line, edition_in, header, header_lines, header_form}
 
 -- ---- the rules
 

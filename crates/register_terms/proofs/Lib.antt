@@ -5,3 +5,4 @@ pub mod HeaderLines
 pub mod LicenseeLines
 pub mod Texts
 pub mod Messages
+pub mod Withdrawing

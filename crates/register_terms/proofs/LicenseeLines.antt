@@ -1,21 +1,23 @@
 -- The lines of the licensees: what is written is read, and what is read was written.
-use Rattle.std.proofs.Common.{◌≡◌, ◌≢◌, ℕ, ◌+◌, ◌<◌, Bool, true, false, codes, List, [], ◌∷◌, ◌++◌, length, map, get_or, Option, Some, None, Ok, refl, sym, ap, ◌∙◌, subst, append_assoc, length-append, arith}
+use Rattle.std.proofs.Common.{◌≡◌, ℕ, ◌+◌, ◌<◌, Bool, true, false, codes, List, [], ◌∷◌, ◌++◌, length, get_or, Option, Some, None, Ok, refl, sym, ap, ◌∙◌, subst, length-append, arith}
 use Rattle.std.specs.List.{All}
 use Rattle.std.specs.Option.{option_map, option_or}
 use Rattle.std.proofs.Math.ListN.{get_or-append}
 use Rattle.std.proofs.Math.Seq.{get_or-append_seam}
-use Rattle.std.proofs.lemmas.List.{length-map, map-append}
+use Rattle.std.proofs.lemmas.List.{map-append}
 use Rattle.std.proofs.lemmas.List.Elements.{All-push}
 use Rattle.text_terms.specs.Names.{is_plain}
 use Rattle.form_terms.specs.TextLines.{after_word}
-use Rattle.form_terms.specs.Forms.{Place, place, ◌>>=◌, row, demand}
+use Rattle.form_terms.specs.Forms.{Place, place, row, demand}
 use Rattle.form_terms.proofs.LineLaws.{after_word-is, after_word-line}
 use Rattle.form_terms.proofs.FormLaws.{Took, Grows, split, join, gave, given, line_read, line_again, demanded, unhindered}
+use Rattle.register_terms.specs.declared.edition.Edition.{Edition}
+use Rattle.register_terms.specs.declared.edition.Edition.TheVariants.{Newer, Older}
 use Rattle.register_terms.specs.Enrolment.{Licensee, Enrolment, IsValid, names_of}
-use Rattle.register_terms.specs.Rules.{with_licensees, with_licensee, refusal_of}
-use Rattle.register_terms.specs.RegisterText.{Edition, Newer, Older, licensee_line, licensee_in, in_state, later, licensee_row}
+use Rattle.register_terms.specs.Rules.{with_licensees, refusal_of}
+use Rattle.register_terms.specs.RegisterText.{licensee_line, licensee_in, in_state, later, licensee_row}
 use Rattle.register_terms.proofs.Serials.{differs_absent}
-use Rattle.register_terms.proofs.Growing.{IsWelcome, is_welcome, not_refused, names-push, with_licensee-valid}
+use Rattle.register_terms.proofs.Growing.{IsWelcome, is_welcome, not_refused, with_licensee-valid}
 
 -- ---- one line
 

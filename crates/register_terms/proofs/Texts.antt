@@ -1,21 +1,23 @@
 -- The two directions: a text of a valid register is read as that register, and what is read was the text of a valid one.
-use Rattle.std.proofs.Common.{◌≡◌, ◌≢◌, ℕ, zero, suc, eqb, not, ◌+◌, ◌^◌, ◌<◌, ◌≤◌, Bool, true, false, codes, List, [], ◌∷◌, ◌++◌, length, map, get_or, Option, Some, None, Result, Ok, refl, sym, ap, ◌∙◌, subst, append_assoc, append-nil, length-append, arith}
+use Rattle.std.proofs.Common.{◌≡◌, ℕ, zero, suc, eqb, not, ◌+◌, ◌^◌, ◌<◌, ◌≤◌, Bool, true, false, codes, List, [], ◌∷◌, ◌++◌, length, map, get_or, Ok, refl, sym, ap, ◌∙◌, subst, append-nil, arith}
 use Rattle.std.specs.List.{All, flat_map, list_all}
 use Rattle.std.specs.Fmt.{decimal}
 use Rattle.std.proofs.Math.Pow.{pow_mono}
 use Rattle.std.proofs.Math.Nat.{mul-le-mul}
 use Rattle.std.proofs.lemmas.List.{length-map}
-use Rattle.std.proofs.lemmas.List.Elements.{All-append, All-from_get_or}
+use Rattle.std.proofs.lemmas.List.Elements.{All-append}
 use Rattle.text_terms.specs.Names.{is_plain}
 use Rattle.text_terms.proofs.NameLaws.{plain_no_line_feed}
 use Rattle.form_terms.specs.TextLines.{line}
-use Rattle.form_terms.specs.Forms.{Place, place, before, ◌>>=◌, lines_left, rows_after, the_end, found_in, read_by}
+use Rattle.form_terms.specs.Forms.{Place, place, before, lines_left, rows_after, the_end, found_in}
 use Rattle.form_terms.proofs.LineLaws.{OneLine, OneLine-decimal, OneLine_from, OneLine-append}
 use Rattle.form_terms.proofs.FormLaws.{Took, took_then, split, join, gave, given, ended, ends, rows_read, rows_again, text_read, whole_text, before_lines, counted}
 use Rattle.register_terms.specs.declared.fault.RegisterKind.TheVariants.{Ending}
+use Rattle.register_terms.specs.declared.edition.Edition.{Edition}
+use Rattle.register_terms.specs.declared.edition.Edition.TheVariants.{Newer, Older}
 use Rattle.register_terms.specs.Enrolment.{Licensee, Enrolment, IsValid, names_of, message_count}
 use Rattle.register_terms.specs.Rules.{with_licensees}
-use Rattle.register_terms.specs.RegisterText.{Edition, Newer, Older, edition_line, header_lines, state_word, licensee_line, register_lines, register_text, older_text, IsTextOf, newer, older, in_state, header_form, licensee_row, licensees_form, register_form, register_of}
+use Rattle.register_terms.specs.RegisterText.{edition_line, header_lines, licensee_line, register_lines, register_text, older_text, IsTextOf, newer, older, in_state, header_form, licensee_row, licensees_form, register_form, register_of}
 use Rattle.register_terms.proofs.HeaderLines.{header_read, header_again}
 use Rattle.register_terms.proofs.LicenseeLines.{IsSaid, IsSoFar, row_read, row_again}
 

@@ -7,18 +7,17 @@ use Rattle.std.specs.Option.{option_map, option_or}
 use Rattle.std.specs.Str.{bytes_eq}
 use Rattle.std.specs.Fmt.{decimal}
 use Rattle.form_terms.specs.declared.fault.LineFault.{LineFault}
+use Rattle.form_terms.specs.declared.fault.RowKinds.{RowKinds}
 use Rattle.form_terms.specs.TextLines.{line, after_word}
-use Rattle.form_terms.specs.Forms.{Form, RowKinds, ◌>>=◌, ◌>>◌, give, row, number_row, demand, rows_after, lines_left, the_end, read_by}
+use Rattle.form_terms.specs.Forms.{Form, ◌>>=◌, ◌>>◌, give, row, number_row, demand, rows_after, lines_left, the_end, read_by}
+use Rattle.register_terms.specs.declared.edition.Edition.{Edition}
+use Rattle.register_terms.specs.declared.edition.Edition.TheVariants.{Newer, Older}
 use Rattle.register_terms.specs.declared.fault.RegisterKind.{RegisterKind}
 use Rattle.register_terms.specs.declared.fault.RegisterKind.TheVariants.{Ending, Header, BadM, BadK, BadMultiplier, BadShift, BadStatus}
 use Rattle.register_terms.specs.Enrolment.{Licensee, Enrolment}
 use Rattle.register_terms.specs.Rules.{are_bits, is_dimension, is_multiplier, is_shift, empty_register, with_licensees, refusal_of}
 
 -- ---- the texts
-
-pub data Edition : Type 0 where
-  Newer : Edition
-  Older : Edition
 
 abbrev pub edition_line : Edition → List ℕ
 edition_line Newer = codes "register 2"

@@ -1,7 +1,7 @@
 -- The rules of registers, each as one test: of the numbers, of a name that is to be enrolled, and of one that is to be
 -- withdrawn. This project's own.
-use Rattle.std.specs.Prelude.{ℕ, ◌+◌, ◌*◌, ◌%◌, ◌^◌, Bool, true, ◌&&◌, ◌==◌, nat_le, nat_lt, if◌then◌else◌, List, [], ◌∷◌, ◌++◌, length, Option, Some, None, slice_set}
-use Rattle.std.specs.Option.{is_some}
+use Rattle.std.specs.Prelude.{ℕ, zero, suc, ◌*◌, ◌%◌, ◌^◌, Bool, true, false, ◌&&◌, ◌==◌, nat_le, nat_lt, if◌then◌else◌, List, [], ◌∷◌, ◌++◌, length, slice_get, Option, Some, None}
+use Rattle.std.specs.Option.{is_some, option_map_or}
 use Rattle.text_terms.specs.Names.{is_plain}
 use Rattle.register_terms.specs.declared.fault.RegisterKind.{RegisterKind}
 use Rattle.register_terms.specs.declared.fault.RegisterKind.TheVariants.{BadName, NameTaken, Full}
@@ -43,3 +43,18 @@ with_name e name = with_licensee e (record { name = name; active = true })
 abbrev pub refusal_of : Enrolment → List ℕ → Option RegisterKind
 refusal_of e name =
     if is_plain name then (if is_some (serial_of (names_of e.licensees) name) then Some NameTaken else (if nat_lt (length e.licensees) (capacity e) then None else Some Full)) else Some BadName
+
+-- ---- withdrawing
+
+-- the licensees, of whom the one with this serial is withdrawn, and all else as it was
+abbrev pub withdrawn_at : List Licensee → ℕ → List Licensee
+withdrawn_at [] serial = []
+withdrawn_at (x ∷ licensees) zero = record x { active = false } ∷ licensees
+withdrawn_at (x ∷ licensees) (suc serial) = x ∷ withdrawn_at licensees serial
+
+abbrev pub with_withdrawn : Enrolment → ℕ → Enrolment
+with_withdrawn e serial = with_licensees e (withdrawn_at e.licensees serial)
+
+-- whether the licensee with this serial holds the licence still
+abbrev pub is_active : Enrolment → ℕ → Bool
+is_active e serial = option_map_or (λ x. x.active) (slice_get e.licensees serial) false

@@ -4,8 +4,10 @@
 //! what a register is and when it is valid, `RegisterText` what its text is and which fault any other text has.
 #![tactic(auto)]
 
+mod edition;
 mod fault;
 mod laws;
 
+pub use edition::Edition;
 pub use fault::{RegisterFault, RegisterKind};
 pub use laws::{messages_differ, names_tell_serials, texts_are_registers, worked_examples};

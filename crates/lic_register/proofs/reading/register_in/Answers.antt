@@ -1,27 +1,25 @@
-use Rattle.std.proofs.Common.{refl, sym, ◌∙◌, ◌≡◌, ◌<◌, length, arith}
-use Rattle.std.proofs.lemmas.Bool.Decides.{nat_tests}
+use Rattle.std.proofs.Common.{◌≡◌, ◌+◌, true, rules, eqb, length, Ok, Err, sym, ap, ◌∙◌, subst, refl, arith}
 use Rattle.std.proofs.lemmas.Result.{err_from_is_err_and}
-use Rattle.register_terms.specs.RegisterText.{register_of}
-use Rattle.register_terms.proofs.Lines.{names_at-unended, names_at-end}
-use Rattle.lic_register.proofs.NameLines.{refused_line, enrolled_line}
+use Rattle.register_terms.specs.RegisterText.{header_form}
+use Rattle.lic_register.specs.Parts.{register_by, register_at}
+use Rattle.lic_register.proofs.LicenseeLines.{at_start, first_lines_read, first_lines_refused, all_read}
 use Rattle.lic_register.proofs.reading.register_in.Goals as goal
 
-pub returns-in_default : goal.returns-in_default
-returns-in_default c =
-    let some : 0 < length c.loop-rest.rest.now = grind (arith, nat_tests) in
-    let unended = names_at-unended c.loop-rest.register c.loop-rest.rest.now some in
-    rw (c.into.ensures, c.fault.ensures, ← c.loop-rest.invariant, c.in_default.ensures.parts, unended, c.next_line-line.ensures) refl
+pub first_lines-requires : goal.first_lines-requires
+first_lines-requires c = record { start = ap (λ at. at.number) c.of-lines.ensures ∙ at_start c.args.bytes.now }
 
-pub returns-in_err-enrol_line : goal.returns-in_err-enrol_line
-returns-in_err-enrol_line c =
-    let p = err_from_is_err_and c.from_residual-in_err-enrol_line.result c.from_residual-in_err-enrol_line.ensures.1 in
-    rw (p.1, p.2) (refused_line c.in_err-enrol_line.field-0.0 c.loop-rest.register c.loop-rest.rest.now c.in-Some.text.now c.in-Some.after.now (register_of c.args.bytes.now) c.in-Some.ensures.parts c.in_err-enrol_line.ensures c.loop-rest.invariant)
+pub returns-in_err-edition : goal.returns-in_err-edition
+returns-in_err-edition c =
+    let p = err_from_is_err_and c.from_residual.result c.from_residual.ensures.1 in
+    rw (p.1, p.2) (first_lines_refused c.args.bytes.now c.in_err-edition.field-0.0 (subst (λ at. header_form at ≡ Err c.in_err-edition.field-0.0) c.of-lines.ensures c.in_err-edition.ensures.found))
 
-pub loop-rest-preserved : goal.loop-rest-preserved
-loop-rest-preserved c =
-    enrolled_line c.loop-rest.register c.enrol_line.new.register c.loop-rest.rest.now c.in-Some.text.now c.in-Some.after.now (register_of c.args.bytes.now) c.in-Some.ensures.parts c.in_ok-enrol_line.ensures c.loop-rest.invariant
+pub loop-lines-init : goal.loop-lines-init
+loop-lines-init c =
+    let is : header_form c.of-lines.result ≡ Ok ((c.in_ok-edition.edition, register_by c.in_ok-edition.rule), c.first_lines.new.lines) = c.in_ok-edition.ensures.found in
+    let start = subst (λ at. header_form at ≡ Ok ((c.in_ok-edition.edition, register_by c.in_ok-edition.rule), c.first_lines.new.lines)) c.of-lines.ensures is in
+    rw c.by_rule-register.ensures (first_lines_read c.in_ok-edition.edition (register_by c.in_ok-edition.rule) c.args.bytes.now c.first_lines.new.lines start refl, c.in_ok-edition.ensures.counted)
 
 pub returns : goal.returns
 returns c =
-    let none : length c.loop-rest.rest.now ≡ 0 = grind (arith, nat_tests) in
-    sym c.loop-rest.invariant ∙ names_at-end c.loop-rest.register c.loop-rest.rest.now none
+    let over : eqb (length c.loop-lines.lines.lines + length c.loop-lines.lines.tail) 0 ≡ true = search rules in
+    sym c.loop-lines.invariant.0 ∙ all_read c.in_ok-edition.edition c.loop-lines.register c.loop-lines.lines over

@@ -1,18 +1,25 @@
-use Rattle.std.proofs.Common.{◌≡◌, ◌++◌, ◌∷◌, [], ap, sym, ◌∙◌, subst, refl, rules, None, Some}
-use Rattle.std.specs.HashMap.{UpdatesBy}
-use Rattle.std.specs.Str.{bytes_eq}
-use Rattle.std.specs.String.{string_bytes, string_eq}
-use Rattle.std.proofs.lemmas.List.{length-map, map_push}
-use Rattle.register_terms.specs.RegisterText.{refusal_of}
-use Rattle.lic_register.specs.Index.{names_of}
-use Rattle.lic_register.proofs.Keeping.{kept_with}
+use Rattle.std.proofs.Common.{◌≡◌, ◌++◌, ◌∷◌, [], ap, sym, ◌∙◌, subst, None}
+use Rattle.register_terms.specs.Enrolment.{Licensee, Enrolment, IsValid}
+use Rattle.register_terms.specs.Rules.{refusal_of, with_licensee}
+use Rattle.register_terms.proofs.Growing.{is_welcome, with_licensee-valid}
+use Rattle.lic_register.specs.Index.{entry_licensees, register_with}
+use Rattle.lic_register.proofs.Entries.{one_more_entry}
 use Rattle.lic_register.proofs.register.Register.add.Goals as goal
 
 pub invariant_of-self-2 : goal.invariant_of-self-2
 invariant_of-self-2 c =
-    let name = c.args.name.now in
-    let pushed : c.push.new.self.items ≡ c.self.inside.licensees.items ++ record { name = c.in_ok-of.field-0 } ∷ [] = rw (c.push.ensures.items, c.unwrap.ensures, c.reserve.ensures.items) refl in
-    let names : names_of c.push.new.self.items ≡ names_of c.self.inside.licensees.items ++ name ∷ [] = ap names_of pushed ∙ map_push _ c.self.inside.licensees.items (record { name = c.in_ok-of.field-0 }) ∙ ap (λ x. names_of c.self.inside.licensees.items ++ x ∷ []) c.in_ok-of.ensures in
-    kept_with _ _ c.self.inside.serials c.insert.new.self name c.len-serial.result c.self.invariant (subst (λ e. refusal_of e name ≡ None) (sym c.self.view_is) c.requires) (rw names refl)
-    (search (rules, length-map))
-    (subst (λ text. UpdatesBy string_eq (λ k. bytes_eq text (string_bytes k)) c.self.inside.serials c.insert.new.self (Some c.len-serial.result)) c.in_ok-key.ensures.ok c.in_ok-insert.ensures.updates)
+    let before : Enrolment = register_with c.self.inside.rule (entry_licensees c.self.inside.licensees.entries) in
+    let free : refusal_of before c.args.name.now ≡ None = subst (λ (e : Enrolment). refusal_of e c.args.name.now ≡ None) (sym c.self.view_is) c.requires in
+    let welcome = is_welcome before c.args.name.now free in
+    let added : Licensee = record { name = c.args.name.now; active = c.args.active } in
+    let grown : entry_licensees c.insert.new.self.entries ≡ entry_licensees c.self.inside.licensees.entries ++ added ∷ [] = ap entry_licensees c.in_ok-insert.ensures.entries ∙ one_more_entry c.self.inside.licensees c.in_ok-key.key c.args.active c.args.name.now c.in_ok-key.ensures.ok welcome.new in
+    subst (λ licensees. IsValid (register_with c.self.inside.rule licensees)) (sym grown) (with_licensee-valid before added c.self.invariant welcome)
+
+pub returns-clause-added : goal.returns-clause-added
+returns-clause-added c =
+    let before : Enrolment = register_with c.self.inside.rule (entry_licensees c.self.inside.licensees.entries) in
+    let free : refusal_of before c.args.name.now ≡ None = subst (λ (e : Enrolment). refusal_of e c.args.name.now ≡ None) (sym c.self.view_is) c.requires in
+    let welcome = is_welcome before c.args.name.now free in
+    let added : Licensee = record { name = c.args.name.now; active = c.args.active } in
+    let grown : entry_licensees c.insert.new.self.entries ≡ entry_licensees c.self.inside.licensees.entries ++ added ∷ [] = ap entry_licensees c.in_ok-insert.ensures.entries ∙ one_more_entry c.self.inside.licensees c.in_ok-key.key c.args.active c.args.name.now c.in_ok-key.ensures.ok welcome.new in
+    ap (register_with c.self.inside.rule) grown ∙ ap (λ (e : Enrolment). with_licensee e added) c.self.view_is

@@ -1,8 +1,8 @@
 use Rattle.std.proofs.Common.{◌∷◌, ◌+◌, ◌-◌, sym, ap, ◌∙◌, length, take, drop, arith}
 use Rattle.std.proofs.lemmas.List.{length-drop, take_all}
-use Rattle.register_terms.specs.RegisterText.{parts_of}
-use Rattle.register_terms.proofs.Lines.{uncut, cut_at}
-use Rattle.lic_register.proofs.reading.cut_line.Goals as goal
+use Rattle.form_terms.specs.TextLines.{parts_of}
+use Rattle.line_reader.proofs.Cuts.{uncut, cut_at}
+use Rattle.line_reader.proofs.cutting.cut_line.Goals as goal
 
 pub returns-in_err-end-clause-parts : goal.returns-in_err-end-clause-parts
 returns-in_err-end-clause-parts c = rw c.from_residual.ensures (uncut c.args.bytes.now (sym c.line_feed.ensures ∙ c.in_err-end.was))

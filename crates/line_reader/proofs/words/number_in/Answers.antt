@@ -1,5 +1,5 @@
-use Rattle.lic_register.proofs.Texts.{no_text_no_number}
-use Rattle.lic_register.proofs.reading.number_in.Goals as goal
+use Rattle.line_reader.proofs.NoTexts.{no_text_no_number}
+use Rattle.line_reader.proofs.words.number_in.Goals as goal
 
 pub returns-in-Err : goal.returns-in-Err
 returns-in-Err c = no_text_no_number c.args.bytes.now c.in-Err.ensures.cases.0
