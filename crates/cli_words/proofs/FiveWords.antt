@@ -1,6 +1,6 @@
 -- The five words of `register`, taken one by one from a list.
 use Rattle.std.proofs.Common.{◌≡◌, ◌≢◌, ℕ, List, [], ◌∷◌, map, length, get_or, None, refl, arith}
-use Rattle.outcome_terms.specs.Commands.{make_of, make_from}
+use Rattle.outcome_terms.specs.RegisterCommand.{make_of, make_from}
 
 module _ {X : Type 0} (f : X → List ℕ) where
   -- any other number of words is no command

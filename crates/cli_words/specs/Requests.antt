@@ -3,7 +3,7 @@ use Rattle.std.specs.Prelude.{IsTrue}
 use Rattle.text_terms.specs.Names.{is_name}
 use Rattle.cli_words.specs.declared.commands.Command.{Command}
 use Rattle.cli_words.specs.declared.commands.Command.TheVariants as command
-use Rattle.outcome_terms.specs.Commands.{Request, Make, Enrol, Accuse}
+use Rattle.outcome_terms.specs.Request.{Request, Make, Enrol, Accuse}
 
 abbrev pub request : Command → Request
 request (command.Register m k a b out) = Make m k a b out.now

@@ -6,7 +6,11 @@ ghost use Rattle.std.specs.String.{string_bytes};
 ghost use Rattle.std.specs.Str.{bytes_eq};
 ghost use Rattle.text_terms.specs.Names.{is_name};
 ghost use Rattle.text_terms.specs.Numbers.{number_of};
-ghost use Rattle.outcome_terms.specs.Commands.{named as blob_name, request_of, make_from, make_of, enrol_of, accuse_of};
+ghost use Rattle.outcome_terms.specs.Words.{named as blob_name};
+ghost use Rattle.outcome_terms.specs.RegisterCommand.{make_from, make_of};
+ghost use Rattle.outcome_terms.specs.EnrolCommand.{enrol_of};
+ghost use Rattle.outcome_terms.specs.AccuseCommand.{accuse_of};
+ghost use Rattle.outcome_terms.specs.Commands.{request_of};
 ghost use Rattle.cli_words.specs.Requests.{request, HasNames};
 
 use texts::{is_name, read_number};
@@ -98,7 +102,7 @@ fn register_words<'a>(arguments: &'a [String]) -> Option<Command<'a>>
     register_from(m, k, a, b, out)
 }
 
-#[tactic(auto, unfolding(outcome_terms::specs::Commands::make_from))]
+#[tactic(auto, unfolding(outcome_terms::specs::RegisterCommand::make_from))]
 fn register_from<'a>(
     m: &String,
     k: &String,
@@ -106,7 +110,8 @@ fn register_from<'a>(
     b: &String,
     out: &'a String,
 ) -> Option<Command<'a>>
-    ensures asked { option_map request result ≡ make_from (string_bytes m.now) (string_bytes k.now) (string_bytes a.now) (string_bytes b.now) (string_bytes out.now) }
+    ensures asked { option_map request result
+        ≡ make_from (string_bytes m.now) (string_bytes k.now) (string_bytes a.now) (string_bytes b.now) (string_bytes out.now) }
     ensures names { IfSome result HasNames }
 {
     let m = number(m)?;
@@ -117,7 +122,7 @@ fn register_from<'a>(
     Some(Command::Register { m, k, a, b, out })
 }
 
-#[tactic(auto, unfolding(outcome_terms::specs::Commands::enrol_of))]
+#[tactic(auto, unfolding(outcome_terms::specs::EnrolCommand::enrol_of))]
 fn enrol_words<'a>(arguments: &'a [String]) -> Option<Command<'a>>
     ensures asked { option_map request result ≡ enrol_of (map string_bytes arguments.now) }
     ensures names { IfSome result HasNames }
@@ -131,7 +136,7 @@ fn enrol_words<'a>(arguments: &'a [String]) -> Option<Command<'a>>
     Some(Command::Enrol { reg, name, out })
 }
 
-#[tactic(auto, unfolding(outcome_terms::specs::Commands::accuse_of))]
+#[tactic(auto, unfolding(outcome_terms::specs::AccuseCommand::accuse_of))]
 fn accuse_words<'a>(arguments: &'a [String]) -> Option<Command<'a>>
     ensures asked { option_map request result ≡ accuse_of (map string_bytes arguments.now) }
     ensures names { IfSome result HasNames }

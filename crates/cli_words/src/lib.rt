@@ -3,7 +3,9 @@
 
 mod commands;
 mod errors;
+mod lines;
 
 pub use commands::{Command, read_words};
 pub use errors::error_line;
+pub use lines::{refusal_line, refusal_status};
 pub use outcome_terms::Status;

@@ -18,7 +18,7 @@ use Rattle.code_terms.specs.Words.{readable, slot_at, holds_symbol, agrees, plac
 use Rattle.register_terms.specs.Enrolment.{Enrolment, IsValid, message_of, message_count}
 use Rattle.register_terms.proofs.Messages.{messages_differ, enrolled-below}
 use Rattle.desk_terms.specs.declared.findings.Accused.{Accused}
-use Rattle.desk_terms.specs.Findings.{findings, meets_threshold, licensee_agreement, accusation, serials, least_readable}
+use Rattle.desk_terms.specs.Findings.{findings, meets_threshold, licensee_agreement, accusation, serials, not_enough}
 use Rattle.coalition_terms.specs.Distance.{have_same_symbol, common_places}
 use Rattle.coalition_terms.specs.Coalition.{IsCoalition, Explains, IsTraced}
 use Rattle.coalition_terms.proofs.Coverings.{counted, IsCovered, covered, sum-below}
@@ -107,7 +107,7 @@ module _ (e : Enrolment) (word : List (Option ℕ)) (c : ℕ) (members : List �
       ap (λ f. sum_by f members) (fun_ext (λ i. sym (length-filter (shares i j) places))) in
       omega (arith, agreement-count e.bits e.dimension (message_of e j) word, few, same)
 
-  module _ (valid : IsValid e) (short : length word ≤ 2 ^ e.bits) (some : 1 ≤ c) (enough : least_readable e c < readable word)
+  module _ (valid : IsValid e) (short : length word ≤ 2 ^ e.bits) (some : 1 ≤ c) (enough : not_enough e c < readable word)
       (coalition : IsCoalition e c members) (explains : Explains e members word) where
     -- a licensee who is no member has fewer symbols than the dimension in common with a member
     common-few : (i j : ℕ) → i < length e.names → j < length e.names → i ≢ j → length (common_places e.bits e.dimension (message_of e i) (message_of e j) (length word)) ≤ e.dimension - 1
@@ -178,7 +178,7 @@ module _ (e : Enrolment) (word : List (Option ℕ)) (c : ℕ) (members : List �
 
 -- the desk accuses members of a coalition that made the word, and at least one of them
 pub traced : (e : Enrolment) (word : List (Option ℕ)) (c : ℕ) (members : List ℕ) → IsValid e → length word ≤ 2 ^ e.bits → 1 ≤ c
-    → least_readable e c < readable word → IsCoalition e c members → Explains e members word → IsTraced e word c members
+    → not_enough e c < readable word → IsCoalition e c members → Explains e members word → IsTraced e word c members
 unfolding findings
 traced e word c members valid short some enough coalition explains = record {
   members = All-map (λ (a : Accused). Contains members a.serial) (accusation e word) (filter (meets_threshold e word c) (serials e))

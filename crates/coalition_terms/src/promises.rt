@@ -8,7 +8,7 @@ ghost use Rattle.coalition_terms.specs.Coalition.{Explains, IsCoalition, IsTrace
 ghost use Rattle.coalition_terms.specs.Distance.{common_places};
 ghost use Rattle.code_terms.specs.Words.{readable, three_colluders};
 ghost use Rattle.desk_terms.specs.Examples.{first_licensees};
-ghost use Rattle.desk_terms.specs.Findings.{least_readable};
+ghost use Rattle.desk_terms.specs.Findings.{not_enough};
 ghost use Rattle.register_terms.specs.Enrolment.{Enrolment, IsValid};
 
 /// Two messages of k coefficients that differ have the same symbol in at most k - 1 of the first n places, where n is at most 2^m.
@@ -19,7 +19,7 @@ pub fn codewords_are_far_apart()
 /// Where a coalition of at most c licensees made the word, and more than c² (k - 1) places of it can be read, the desk accuses
 /// members of the coalition alone, and at least one of them.
 pub fn coalitions_are_traced()
-    ensures { (e : Enrolment) (word : List (Option ℕ)) (c : ℕ) (members : List ℕ) → IsValid e → length word ≤ 2 ^ e.bits → 1 ≤ c → least_readable e c < readable word → IsCoalition e c members → Explains e members word → IsTraced e word c members }
+    ensures { (e : Enrolment) (word : List (Option ℕ)) (c : ℕ) (members : List ℕ) → IsValid e → length word ≤ 2 ^ e.bits → 1 ≤ c → not_enough e c < readable word → IsCoalition e c members → Explains e members word → IsTraced e word c members }
 {}
 
 /// Two polynomials with n coefficients each that have the same values at n different points of a field are the same.
@@ -33,6 +33,6 @@ pub fn worked_examples()
     ensures valid { IsValid (first_licensees 20) }
     ensures coalition { IsCoalition (first_licensees 20) 3 (0 ∷ 1 ∷ 16 ∷ []) }
     ensures explained { Explains (first_licensees 20) (0 ∷ 1 ∷ 16 ∷ []) three_colluders }
-    ensures enough { least_readable (first_licensees 20) 3 < readable three_colluders }
+    ensures enough { not_enough (first_licensees 20) 3 < readable three_colluders }
     ensures in_common { common_places 4 2 0 16 16 ≡ 0 ∷ [] }
 {}

@@ -27,9 +27,9 @@ serials e = range_with_len 0 (length e.names)
 unfoldable pub findings : Enrolment → List (Option ℕ) → ℕ → Findings
 findings e word c = record { readable = readable word; bound = c; accused = map (accusation e word) (filter (meets_threshold e word c) (serials e)) }
 
--- too few places can be read for coalitions of c: r is not above c² (k - 1)
-abbrev pub least_readable : Enrolment → ℕ → ℕ
-least_readable e c = c * c * (e.dimension - 1)
+-- the number of readable places that is not enough for coalitions of c: c² (k - 1)
+abbrev pub not_enough : Enrolment → ℕ → ℕ
+not_enough e c = c * c * (e.dimension - 1)
 
 -- a bound that the codes of a dimension k allow: 1 to 8, with c (k - 1) at most 12
 abbrev pub is_allowed_bound : ℕ → ℕ → Bool

@@ -1,3 +1,7 @@
-pub mod Consequences
-pub mod Reports
-pub mod Performances
+pub mod Readings
+pub mod Following
+pub mod Rows
+pub mod Givens
+pub mod Performing
+pub mod Calls
+pub mod Headlines

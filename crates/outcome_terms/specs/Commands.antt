@@ -1,61 +1,15 @@
--- Which lists of words are commands. This project's own. A word that is a number is spelled as numbers are, and may be too
--- large for the rule that it is tested by later; every other word after the command has the form of a blob's name.
-use Rattle.std.specs.Prelude.{ℕ, List, [], ◌∷◌, Option, Some, None, codes, if◌then◌else◌}
+-- The commands: which words each is, what it does, and how it may end. This project's own. One line a command in each table.
+use Rattle.std.specs.Prelude.{ℕ, List, [], ◌∷◌, Bool, ◌==◌, Option, Some, None, codes, if◌then◌else◌}
+use Rattle.std.specs.List.{list_any}
 use Rattle.std.specs.Str.{bytes_eq}
-use Rattle.text_terms.specs.Numbers.{number_of}
-use Rattle.text_terms.specs.Names.{is_name}
-
--- a command with its arguments
-pub data Request : Type 0 where
-  -- make a register of codewords over GF(2^m) with dimension k, multiplier a and shift b, and write it to `out`
-  Make : (m k a b : ℕ) (out : List ℕ) → Request
-  -- enrol the name in the register, and write it to `out`
-  Enrol : (register name out : List ℕ) → Request
-  -- report who agrees with the word, for coalitions of at most c
-  Accuse : (register word : List ℕ) (c : ℕ) → Request
-
--- the first part that is none makes the whole none
-infixl 10 ◌>>=◌
-abbrev pub ◌>>=◌ : {A B : Type 0} → Option A → (A → Option B) → Option B
-None >>= f = None
-(Some x) >>= f = f x
-
--- a word of the form of a blob's name
-abbrev pub named : List ℕ → Option (List ℕ)
-named word = if is_name word then Some word else None
-
--- `M K A B OUT`: four numbers and a blob's name
-unfoldable pub make_from : (m_word k_word a_word b_word out_word : List ℕ) → Option Request
-make_from m_word k_word a_word b_word out_word = do
-  m ← number_of m_word
-  k ← number_of k_word
-  a ← number_of a_word
-  b ← number_of b_word
-  out ← named out_word
-  Some (Make m k a b out)
-
--- `register M K A B OUT`
-unfoldable pub make_of : List (List ℕ) → Option Request
-make_of (m_word ∷ k_word ∷ a_word ∷ b_word ∷ out_word ∷ []) = make_from m_word k_word a_word b_word out_word
-make_of _ = None
-
--- `enrol REG NAME OUT`: three words, each of the form of a blob's name
-unfoldable pub enrol_of : List (List ℕ) → Option Request
-enrol_of (register_word ∷ name_word ∷ out_word ∷ []) = do
-  register ← named register_word
-  name ← named name_word
-  out ← named out_word
-  Some (Enrol register name out)
-enrol_of _ = None
-
--- `accuse REG WORD C`: two blobs' names and a number
-unfoldable pub accuse_of : List (List ℕ) → Option Request
-accuse_of (register_word ∷ word_word ∷ c_word ∷ []) = do
-  register ← named register_word
-  word ← named word_word
-  c ← number_of c_word
-  Some (Accuse register word c)
-accuse_of _ = None
+use Rattle.outcome_terms.specs.declared.status.Status.{Status}
+use Rattle.outcome_terms.specs.Statuses.{status_code}
+use Rattle.outcome_terms.specs.Request.{Request, Make, Enrol, Accuse}
+use Rattle.outcome_terms.specs.Reading.{Reading}
+use Rattle.outcome_terms.specs.Stores.{Writing}
+use Rattle.outcome_terms.specs.RegisterCommand.{make_of, make, make_statuses}
+use Rattle.outcome_terms.specs.EnrolCommand.{enrol_of, enrol, enrol_statuses}
+use Rattle.outcome_terms.specs.AccuseCommand.{accuse_of, accuse, accuse_statuses}
 
 -- the command that the words are; every other list of words is none
 unfoldable pub request_of : List (List ℕ) → Option Request
@@ -65,3 +19,29 @@ request_of (command ∷ arguments) =
     else (if bytes_eq command (codes "enrol") then enrol_of arguments
     else (if bytes_eq command (codes "accuse") then accuse_of arguments
     else None))
+
+-- what is to be done
+pub data Deed : Type 0 where
+  -- nothing: the words are no command
+  Nothing : Deed
+  -- to put out the text that the reading gives
+  Put : Reading (List ℕ) → Deed
+  -- to write under the name a text as the reading gives it, and put out nothing
+  Write : (out : List ℕ) → Reading Writing → Deed
+
+-- what a command is to do
+abbrev pub deed : Option Request → Deed
+deed None = Nothing
+deed (Some (Make m k a b out)) = Write out (make m k a b)
+deed (Some (Enrol register name out)) = Write out (enrol register name out)
+deed (Some (Accuse register word c)) = Put (accuse register word c)
+
+-- the numbers of the statuses that a command may end with which its words do not refuse
+abbrev pub later_statuses : Option Request → List ℕ
+later_statuses None = []
+later_statuses (Some (Make m k a b out)) = make_statuses
+later_statuses (Some (Enrol register name out)) = enrol_statuses
+later_statuses (Some (Accuse register word c)) = accuse_statuses
+
+abbrev pub may_end : List ℕ → Status → Bool
+may_end numbers s = list_any (λ n. n == status_code s) numbers

@@ -1,4 +1,14 @@
-pub mod Commands
+pub mod Request
+pub mod Words
 pub mod Statuses
+pub mod Reading
+pub mod Stores
+pub mod Registers
+pub mod RegisterCommand
+pub mod EnrolCommand
+pub mod AccuseCommand
+pub mod Commands
 pub mod Outcome
-pub mod Endings
+pub mod Output
+pub mod Call
+pub mod Reports

@@ -1,128 +1,106 @@
--- What each command gives over a map of blobs, with the refusals in their order. This project's own.
--- Nothing here speaks of parts, fields or of how a register is kept.
-use Rattle.std.specs.Prelude.{ℕ, List, [], length, not, nat_le, Option, Some, None, Result, Ok, Err, if◌then◌else◌}
-use Rattle.std.specs.Str.{bytes_eq}
+-- What a command does and what that leaves, over a map of blobs and over any store. This project's own.
+use Rattle.std.specs.Prelude.{◌≡◌, ℕ, List, [], Bool, true, false, Option, Some, None, Result, Ok, Err, IfSome, ⊤}
 use Rattle.std.specs.FinMap.{insert}
-use Rattle.text_terms.specs.Names.{is_plain}
-use Rattle.shelf_terms.specs.Blobs.{Blobs, blob_at}
-use Rattle.code_terms.specs.declared.word_fault.WordFault.{WordFault}
-use Rattle.code_terms.specs.Words.{readable}
-use Rattle.code_terms.specs.WordText.{word_of}
-use Rattle.register_terms.specs.declared.fault.RegisterFault.{RegisterFault}
-use Rattle.register_terms.specs.declared.fault.RegisterKind.TheVariants as kind
-use Rattle.register_terms.specs.Enrolment.{Enrolment, capacity, serial_of}
-use Rattle.register_terms.specs.RegisterText.{register_text, register_of, with_name, are_bits, is_dimension, is_multiplier, is_shift}
-use Rattle.desk_terms.specs.Findings.{findings, is_allowed_bound, least_readable}
-use Rattle.desk_terms.specs.Report.{report_text}
+use Rattle.shelf_terms.specs.Blobs.{Blobs}
+use Rattle.outcome_terms.specs.declared.status.Status.{Status}
+use Rattle.outcome_terms.specs.declared.status.Status.TheVariants as status
 use Rattle.outcome_terms.specs.declared.refusal.Refusal.{Refusal}
-use Rattle.outcome_terms.specs.declared.refusal.Refusal.TheVariants.{BadWords, Missing, TooLong, BadRegister, BadBound, TooFew, NameTaken, BadName, Full, SameName, BadWord, BadParameters}
-use Rattle.outcome_terms.specs.Commands.{Request, Make, Enrol, Accuse, request_of}
+use Rattle.outcome_terms.specs.declared.refusal.Refusal.TheVariants as refusal
+use Rattle.outcome_terms.specs.Statuses.{refusal_status}
+use Rattle.outcome_terms.specs.Reading.{Reading, Give, Refuse, Read, Asks, given, names_read}
+use Rattle.outcome_terms.specs.Stores.{Store, Follows, Writing, IsWriting, Writes}
+use Rattle.outcome_terms.specs.Commands.{Deed, Nothing, Put, Write, deed, request_of}
 
--- the first step that is refused gives the refusal
-infixl 10 ◌>>=◌
-abbrev pub ◌>>=◌ : {A B : Type 0} → Result A Refusal → (A → Result B Refusal) → Result B Refusal
-(Ok x) >>= f = f x
-(Err e) >>= f = Err e
+-- ---- over a map of blobs
 
--- a blob is read where it is at most so long
-abbrev pub blob_limit : ℕ
-blob_limit = 67108864
+-- what a command does that is not refused
+pub data Effect : Type 0 where
+  -- a text is put out, and the blobs stay
+  Puts : List ℕ → Effect
+  -- a blob is written, and nothing is put out
+  Wrote : (out : List ℕ) → Writing → Effect
 
-abbrev pub within_limit : List ℕ → Option (List ℕ) → Result (List ℕ) Refusal
-within_limit name None = Err (Missing name)
-within_limit name (Some bytes) = if nat_le (length bytes) blob_limit then Ok bytes else Err (TooLong name)
+abbrev pub puts : Result (List ℕ) Refusal → Result Effect Refusal
+puts (Ok text) = Ok (Puts text)
+puts (Err e) = Err e
 
--- the bytes under a name
-abbrev pub read_blob : Blobs → List ℕ → Result (List ℕ) Refusal
-read_blob blobs name = within_limit name (blob_at blobs name)
+abbrev pub writes : List ℕ → Result Writing Refusal → Result Effect Refusal
+writes out (Ok writing) = Ok (Wrote out writing)
+writes out (Err e) = Err e
 
--- what a register's or a word's text gives, with its fault as a refusal
-abbrev pub register_or_refusal : Result Enrolment RegisterFault → Result Enrolment Refusal
-register_or_refusal (Ok e) = Ok e
-register_or_refusal (Err fault) = Err (BadRegister fault)
-
-abbrev pub word_or_refusal : Result (List (Option ℕ)) WordFault → Result (List (Option ℕ)) Refusal
-word_or_refusal (Ok word) = Ok word
-word_or_refusal (Err fault) = Err (BadWord fault)
-
--- the register under a name
-unfoldable pub read_register : Blobs → List ℕ → Result Enrolment Refusal
-read_register blobs name = do
-  bytes ← read_blob blobs name
-  register_or_refusal (register_of bytes)
-
--- the word under a name, over the field of 2^m elements
-unfoldable pub read_word : Blobs → List ℕ → ℕ → Result (List (Option ℕ)) Refusal
-read_word blobs name m = do
-  bytes ← read_blob blobs name
-  word_or_refusal (word_of m bytes)
-
--- the report of a word against a register, unless too few of its places can be read
-unfoldable pub report_of : Enrolment → List (Option ℕ) → ℕ → Result (List ℕ) Refusal
-report_of e word c = if nat_le (readable word) (least_readable e c) then Err (TooFew (readable word) (least_readable e c)) else Ok (report_text (findings e word c))
-
--- a bound that codes of dimension k allow
-abbrev pub allowed_bound : ℕ → ℕ → Result ℕ Refusal
-allowed_bound k c = if is_allowed_bound k c then Ok c else Err (BadBound c)
-
--- `accuse`: the register, the bound, the word, the number of readable places
-unfoldable pub accuse_outcome : Blobs → List ℕ → List ℕ → ℕ → Result (List ℕ) Refusal
-accuse_outcome blobs register word c = do
-  e ← read_register blobs register
-  bound ← allowed_bound e.dimension c
-  slots ← read_word blobs word e.bits
-  report_of e slots bound
-
--- `register`: the text of a register without licensees, or the first rule that its numbers break
-unfoldable pub make_outcome : ℕ → ℕ → ℕ → ℕ → Result (List ℕ) Refusal
-make_outcome m k a b =
-    if not (are_bits m) then Err (BadParameters kind.BadM)
-    else (if not (is_dimension k) then Err (BadParameters kind.BadK)
-    else (if not (is_multiplier m k a) then Err (BadParameters kind.BadMultiplier)
-    else (if not (is_shift m k b) then Err (BadParameters kind.BadShift)
-    else Ok (register_text (record { bits = m; dimension = k; multiplier = a; shift = b; names = [] })))))
-
--- the register with the name, unless the name is not plain, is taken, or there is no room
-unfoldable pub enrolled : Enrolment → List ℕ → Result Enrolment Refusal
-enrolled e name =
-    if not (is_plain name) then Err BadName
-    else elim (serial_of e.names name) [ Some serial ↦ Err (NameTaken serial) | None ↦ if nat_le (capacity e) (length e.names) then Err (Full (length e.names)) else Ok (with_name e name) ]
-
--- `enrol`: another name to write to, the register, the name
-unfoldable pub enrol_outcome : Blobs → List ℕ → List ℕ → List ℕ → Result (List ℕ) Refusal
-enrol_outcome blobs register name out =
-    if bytes_eq out register then Err (SameName out)
-    else (do
-      e ← read_register blobs register
-      f ← enrolled e name
-      Ok (register_text f))
-
--- what a command leaves when it is done
-pub record Effect : Type 0 where
-  -- the blobs after
-  pub blobs : Blobs
-  -- the bytes put out
-  pub bytes : List ℕ
-
--- the blobs stay, and a text is put out
-abbrev pub puts_out : Blobs → Result (List ℕ) Refusal → Result Effect Refusal
-puts_out blobs (Ok text) = Ok (record { blobs = blobs; bytes = text })
-puts_out blobs (Err e) = Err e
-
--- a text is written under a name, and nothing is put out
-abbrev pub writes_to : Blobs → List ℕ → Result (List ℕ) Refusal → Result Effect Refusal
-writes_to blobs out (Ok text) = Ok (record { blobs = insert blobs out text; bytes = [] })
-writes_to blobs out (Err e) = Err e
-
-abbrev pub request_outcome : Request → Blobs → Result Effect Refusal
-request_outcome (Make m k a b out) blobs = writes_to blobs out (make_outcome m k a b)
-request_outcome (Enrol register name out) blobs = writes_to blobs out (enrol_outcome blobs register name out)
-request_outcome (Accuse register word c) blobs = puts_out blobs (accuse_outcome blobs register word c)
-
-abbrev pub outcome_of : Option Request → Blobs → Result Effect Refusal
-outcome_of None blobs = Err BadWords
-outcome_of (Some request) blobs = request_outcome request blobs
+abbrev pub outcome_of : Deed → Blobs → Result Effect Refusal
+outcome_of Nothing blobs = Err refusal.BadWords
+outcome_of (Put reading) blobs = puts (given blobs reading)
+outcome_of (Write out reading) blobs = writes out (given blobs reading)
 
 -- the outcome of a list of words
 abbrev pub outcome : List (List ℕ) → Blobs → Result Effect Refusal
-outcome words blobs = outcome_of (request_of words) blobs
+outcome words blobs = outcome_of (deed (request_of words)) blobs
+
+-- the status of an outcome
+abbrev pub outcome_status : Result Effect Refusal → Status
+outcome_status (Ok effect) = status.Ok
+outcome_status (Err e) = refusal_status e
+
+-- a status that the words and the blobs do not decide
+abbrev pub is_free_status : Status → Bool
+is_free_status status.Memory = true
+is_free_status status.ReadFault = true
+is_free_status status.WriteFault = true
+is_free_status status.OutFault = true
+is_free_status s = false
+
+-- the names of the blobs that a command reads over these, in order
+abbrev pub deed_names : Deed → Blobs → List (List ℕ)
+deed_names Nothing blobs = []
+deed_names (Put reading) blobs = names_read blobs reading
+deed_names (Write out reading) blobs = names_read blobs reading
+
+-- a blob of such a text was written
+pub record HasWritten (blobs : Blobs) (out : List ℕ) (writing : Writing) (told : Option Blobs) : Type 0 where
+  pub text : List ℕ
+  pub is_writing : IsWriting writing text
+  pub after : told ≡ Some (insert blobs out text)
+
+-- what the blobs are after an effect, and what is left to be put out
+abbrev pub LeavesEffect : Result Effect Refusal → Blobs → Option Blobs → Option (List ℕ) → Type 0
+LeavesEffect (Ok (Puts text)) blobs told left = (told ≡ Some blobs) × (left ≡ Some text)
+LeavesEffect (Ok (Wrote out writing)) blobs told left = HasWritten blobs out writing told × (left ≡ None)
+LeavesEffect (Err e) blobs told left = ⊥
+
+-- ---- over any store
+
+-- The answer of a command is the text that is left to be put out, which a command that writes has not.
+pub data Performs : Deed → Store → Store → Result (Option (List ℕ)) Refusal → Type 0 where
+  unknown : {s : Store} → Performs Nothing s s (Err refusal.BadWords)
+  made : {text : List ℕ} {reading : Reading (List ℕ)} {s t : Store} → Follows reading s t (Ok text) → Performs (Put reading) s t (Ok (Some text))
+  not_made : {reading : Reading (List ℕ)} {s t : Store} {e : Refusal} → Follows reading s t (Err e) → Performs (Put reading) s t (Err e)
+  wrote : {out text : List ℕ} {writing : Writing} {reading : Reading Writing} {s t u : Store}
+      → Follows reading s t (Ok writing) → IsWriting writing text → Writes out text t u (Ok tt) → Performs (Write out reading) s u (Ok None)
+  stopped : {out : List ℕ} {reading : Reading Writing} {s t : Store} {e : Refusal} → Follows reading s t (Err e) → Performs (Write out reading) s t (Err e)
+  lost : {out text : List ℕ} {writing : Writing} {reading : Reading Writing} {s t u : Store} {e : Refusal}
+      → Follows reading s t (Ok writing) → IsWriting writing text → Writes out text t u (Err e) → Performs (Write out reading) s u (Err e)
+
+-- a command reads the blob of this name, for some answers on the way
+abbrev pub DeedAsks : Deed → List ℕ → Type 0
+DeedAsks Nothing name = ⊥
+DeedAsks (Put reading) name = Asks reading name
+DeedAsks (Write out reading) name = Asks reading name
+
+-- the name of the blob that a command writes
+abbrev pub written_name : Deed → Option (List ℕ)
+written_name Nothing = None
+written_name (Put reading) = None
+written_name (Write out reading) = Some out
+
+-- the refusal that comes before a blob is read
+abbrev pub first_refusal : {A : Type 0} → Reading A → Option Refusal
+first_refusal (Give x) = None
+first_refusal (Refuse fault) = Some (refusal.Content fault)
+first_refusal (Read name next) = None
+
+-- what the words alone refuse a command with
+abbrev pub refused_by_words : Deed → Option Refusal
+refused_by_words Nothing = Some refusal.BadWords
+refused_by_words (Put reading) = first_refusal reading
+refused_by_words (Write out reading) = first_refusal reading

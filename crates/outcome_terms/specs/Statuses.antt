@@ -5,8 +5,12 @@ use Rattle.code_terms.specs.declared.word_fault.WordFault.{WordFault}
 use Rattle.code_terms.specs.declared.word_fault.WordFault.TheVariants as word
 use Rattle.register_terms.specs.declared.fault.RegisterKind.{RegisterKind}
 use Rattle.register_terms.specs.declared.fault.RegisterKind.TheVariants as kind
+use Rattle.outcome_terms.specs.declared.parameter_rule.ParameterRule.{ParameterRule}
+use Rattle.outcome_terms.specs.declared.parameter_rule.ParameterRule.TheVariants as rules
 use Rattle.outcome_terms.specs.declared.status.Status.{Status}
 use Rattle.outcome_terms.specs.declared.status.Status.TheVariants as status
+use Rattle.outcome_terms.specs.declared.fault.Fault.{Fault}
+use Rattle.outcome_terms.specs.declared.fault.Fault.TheVariants as fault
 use Rattle.outcome_terms.specs.declared.refusal.Refusal.{Refusal}
 use Rattle.outcome_terms.specs.declared.refusal.Refusal.TheVariants as refusal
 
@@ -29,25 +33,7 @@ status_code status.SameName = 21
 status_code status.BadWord = 23
 status_code status.BadParameters = 24
 
--- the status that a refusal ends with
-abbrev pub refusal_status : Refusal → Status
-refusal_status refusal.Memory = status.Memory
-refusal_status refusal.BadWords = status.BadWords
-refusal_status (refusal.Missing _) = status.Missing
-refusal_status (refusal.ReadFault _) = status.ReadFault
-refusal_status (refusal.WriteFault _) = status.WriteFault
-refusal_status (refusal.TooLong _) = status.TooLong
-refusal_status (refusal.BadRegister _) = status.BadRegister
-refusal_status (refusal.BadBound _) = status.BadBound
-refusal_status (refusal.TooFew _ _) = status.TooFew
-refusal_status (refusal.NameTaken _) = status.NameTaken
-refusal_status refusal.BadName = status.BadName
-refusal_status (refusal.Full _) = status.Full
-refusal_status (refusal.SameName _) = status.SameName
-refusal_status (refusal.BadWord _) = status.BadWord
-refusal_status (refusal.BadParameters _) = status.BadParameters
-
--- how a line breaks the form of a register, or which of its rules its numbers break
+-- how a line breaks the form of a register
 abbrev pub kind_text : RegisterKind → List ℕ
 kind_text kind.Ending = codes "ending"
 kind_text kind.Header = codes "header"
@@ -59,28 +45,50 @@ kind_text kind.BadName = codes "bad-name"
 kind_text kind.NameTaken = codes "name-taken"
 kind_text kind.Full = codes "full"
 
+-- which rule the numbers of a new register break
+abbrev pub rule_text : ParameterRule → List ℕ
+rule_text rules.Bits = codes "bad-m"
+rule_text rules.Dimension = codes "bad-k"
+rule_text rules.Multiplier = codes "bad-multiplier"
+rule_text rules.Shift = codes "bad-shift"
+
 -- how a blob breaks the form of a word
 abbrev pub word_fault_text : WordFault → List ℕ
 word_fault_text (word.Token place) = codes "token " ++ decimal place
 word_fault_text word.Long = codes "long"
 
--- what the error line says after the status
-unfoldable pub refusal_detail : Refusal → List ℕ
-refusal_detail refusal.Memory = codes "memory"
-refusal_detail refusal.BadWords = codes "words"
-refusal_detail (refusal.Missing name) = name
-refusal_detail (refusal.ReadFault name) = name
-refusal_detail (refusal.WriteFault name) = name
-refusal_detail (refusal.TooLong name) = name
-refusal_detail (refusal.BadRegister fault) = decimal fault.line ++ (codes " " ++ kind_text fault.kind)
-refusal_detail (refusal.BadBound bound) = decimal bound
-refusal_detail (refusal.TooFew readable needed) = decimal readable ++ (codes " " ++ decimal needed)
-refusal_detail (refusal.NameTaken serial) = decimal serial
-refusal_detail refusal.BadName = codes "name"
-refusal_detail (refusal.Full licensees) = decimal licensees
-refusal_detail (refusal.SameName name) = name
-refusal_detail (refusal.BadWord fault) = word_fault_text fault
-refusal_detail (refusal.BadParameters rule) = kind_text rule
+-- what an error line tells: the status, and a detail
+pub record Line : Type 0 where
+  pub status : Status
+  pub detail : List ℕ
+
+abbrev pub says : Status → List ℕ → Line
+says s detail = record { status = s; detail = detail }
+
+-- what the words or the blobs are refused with
+abbrev pub fault_line : Fault → Line
+fault_line (fault.BadRegister at) = says status.BadRegister (decimal at.line ++ (codes " " ++ kind_text at.kind))
+fault_line (fault.BadBound bound) = says status.BadBound (decimal bound)
+fault_line (fault.TooFew readable not_enough) = says status.TooFew (decimal readable ++ (codes " " ++ decimal not_enough))
+fault_line (fault.NameTaken serial) = says status.NameTaken (decimal serial)
+fault_line fault.BadName = says status.BadName (codes "name")
+fault_line (fault.Full licensees) = says status.Full (decimal licensees)
+fault_line (fault.SameName name) = says status.SameName name
+fault_line (fault.BadWord at) = says status.BadWord (word_fault_text at)
+fault_line (fault.BadParameters broken) = says status.BadParameters (rule_text broken)
+
+abbrev pub refusal_line : Refusal → Line
+refusal_line refusal.Memory = says status.Memory (codes "memory")
+refusal_line refusal.BadWords = says status.BadWords (codes "words")
+refusal_line (refusal.Missing name) = says status.Missing name
+refusal_line (refusal.ReadFault name) = says status.ReadFault name
+refusal_line (refusal.WriteFault name) = says status.WriteFault name
+refusal_line (refusal.TooLong name) = says status.TooLong name
+refusal_line (refusal.Content fault) = fault_line fault
+
+-- the status that a refusal ends with
+abbrev pub refusal_status : Refusal → Status
+refusal_status e = (refusal_line e).status
 
 -- `error`, the status's number and a detail, with spaces between, and a line feed
 unfoldable pub line_of : Status → List ℕ → List ℕ
@@ -88,4 +96,4 @@ line_of s detail = codes "error " ++ (decimal (status_code s) ++ (codes " " ++ (
 
 -- the error line of a refusal
 abbrev pub error_text : Refusal → List ℕ
-error_text e = line_of (refusal_status e) (refusal_detail e)
+error_text e = line_of (refusal_line e).status (refusal_line e).detail

@@ -1,8 +1,25 @@
 //! What is proved of the definitions alone.
 
-ghost use Rattle.std.specs.Prelude.{◌≡◌, [], ◌∷◌, None, Some, codes};
+ghost use Rattle.std.specs.Prelude.{◌≡◌, List, ℕ, [], ◌∷◌, None, Some, Ok, Err, Result, codes};
+ghost use Rattle.shelf_terms.specs.Blobs.{Blobs};
+ghost use Rattle.outcome_terms.specs.declared.refusal.Refusal.{Refusal};
 ghost use Rattle.outcome_terms.specs.Commands.{request_of};
-ghost use Rattle.outcome_terms.specs.Commands.Request.{Accuse, Enrol, Make};
+ghost use Rattle.outcome_terms.specs.Request.{Accuse, Enrol, Make};
+ghost use Rattle.outcome_terms.specs.Reading.{Reading, given, ◌>>=◌ as ◌and_then◌};
+ghost use Rattle.outcome_terms.specs.Stores.{Answers, Follows, Store};
+
+/// Readings that are followed one after the other are followed as a whole, none changes a blob, and where the blobs are told
+/// the answer is what the reading gives over them.
+pub fn readings_compose()
+    ensures goes_on { (reading : Reading (List ℕ)) (f : List ℕ → Reading (List ℕ)) (s t u : Store) (x : List ℕ) (answer : Result (List ℕ) Refusal)
+        → Follows reading s t (Ok x) → Follows (f x) t u answer → Follows (reading and_then f) s u answer }
+    ensures stops { (reading : Reading (List ℕ)) (f : List ℕ → Reading (List ℕ)) (s t : Store) (e : Refusal)
+        → Follows reading s t (Err e) → Follows (reading and_then f) s t (Err e) }
+    ensures keeps { (reading : Reading (List ℕ)) (s t : Store) (answer : Result (List ℕ) Refusal)
+        → Follows reading s t answer → t.told ≡ s.told }
+    ensures decided { (reading : Reading (List ℕ)) (s t : Store) (answer : Result (List ℕ) Refusal) (blobs : Blobs)
+        → s.told ≡ Some blobs → Follows reading s t answer → Answers answer (given blobs reading) }
+{}
 
 /// Words that are commands, and words that are none: too few, too many, a number with a leading zero or a sign, a name with a
 /// line feed, an unknown command, and no word at all.

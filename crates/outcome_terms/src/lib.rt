@@ -1,10 +1,14 @@
-//! What the program promises for each list of words: commands, statuses, error lines and the outcome over blobs.
+//! What the program promises for each list of words: commands as readings, statuses, error lines and the outcome over blobs.
 #![tactic(auto)]
 
+mod fault;
 mod laws;
+mod parameter_rule;
 mod refusal;
 mod status;
 
-pub use laws::worked_examples;
+pub use fault::Fault;
+pub use laws::{readings_compose, worked_examples};
+pub use parameter_rule::ParameterRule;
 pub use refusal::Refusal;
 pub use status::Status;

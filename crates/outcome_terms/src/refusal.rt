@@ -3,11 +3,10 @@
 ghost use Rattle.std.specs.Prelude.{◌≡◌};
 ghost use Rattle.outcome_terms.specs.declared.refusal.Refusal.TheVariants as refusals;
 
-use code_terms::WordFault;
+use crate::fault::Fault;
 use lists::{Memory, Text};
-use register_terms::{RegisterFault, RegisterKind};
 
-/// A refusal of a command before anything was put out, with the detail of its error line.
+/// A refusal of a command before anything was put out.
 #[derive(Debug, Drop)]
 pub enum Refusal {
     /// There was not enough memory.
@@ -22,29 +21,8 @@ pub enum Refusal {
     WriteFault(Text),
     /// This blob is longer than the limit.
     TooLong(Text),
-    /// The blob is no register: the first line that breaks the form, and how.
-    BadRegister(RegisterFault),
-    /// This bound is not allowed.
-    BadBound(u128),
-    /// So many places can be read, which is not above the number that the bound needs.
-    TooFew {
-        /// The number of readable places.
-        readable: u32,
-        /// The number that has to be exceeded: the bound's square times one less than the dimension.
-        needed: u32,
-    },
-    /// The licensee with this serial has the name.
-    NameTaken(u32),
-    /// The name is no plain name.
-    BadName,
-    /// The register is full with so many licensees.
-    Full(u32),
-    /// This blob is both read and to be written.
-    SameName(Text),
-    /// The blob is no word: the first token that breaks the form, or too many.
-    BadWord(WordFault),
-    /// The numbers make no register: the first rule that they break.
-    BadParameters(RegisterKind),
+    /// What the words say, or the blobs that were read.
+    Content(Fault),
 }
 
 impl From<Memory> for Refusal {

@@ -1,5 +1,8 @@
 use Rattle.std.proofs.Common.{refl}
-use Rattle.outcome_terms.specs.Commands.{request_of, make_of, make_from, enrol_of, accuse_of}
+use Rattle.outcome_terms.specs.Commands.{request_of}
+use Rattle.outcome_terms.specs.RegisterCommand.{make_of, make_from}
+use Rattle.outcome_terms.specs.EnrolCommand.{enrol_of}
+use Rattle.outcome_terms.specs.AccuseCommand.{accuse_of}
 use Rattle.outcome_terms.proofs.laws.worked_examples.Goals as goal
 
 pub returns-clause-make : goal.returns-clause-make

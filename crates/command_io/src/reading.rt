@@ -1,0 +1,74 @@
+//! The blobs that commands read.
+
+ghost use Rattle.std.specs.Prelude.{◌≡◌, ◌≤◌, length, IfOk, IsTrue};
+ghost use Rattle.text_terms.specs.Names.{is_name};
+ghost use Rattle.register_terms.specs.RegisterText.{register_of};
+ghost use Rattle.outcome_terms.specs.declared.fault.Fault.TheVariants.{BadRegister};
+ghost use Rattle.outcome_terms.specs.Reading.{blob, blob_limit, understood};
+ghost use Rattle.outcome_terms.specs.Registers.{register_under};
+ghost use Rattle.outcome_terms.specs.Stores.{Follows, Reads, Settles, seen, store};
+
+use lic_register::{Register, RegisterReadError};
+use lists::Text;
+use outcome_terms::{Fault, Refusal};
+use shelf_io::{FetchError, Shelf, fetch};
+use std::alloc::Global;
+
+/// No command reads a blob of more bytes.
+const BLOB_LIMIT: u64 = 67_108_864;
+
+/// The bytes of a blob that is not too long.
+#[tactic(auto, using(outcome_terms::proofs::Readings::read_follows))]
+pub fn bytes_under<S: Shelf>(
+    alloc: Global,
+    shelf: &mut S,
+    name: &str,
+) -> Result<Vec<u8>, Refusal>
+    requires { IsTrue (is_name name.now) }
+    ensures bytes { Follows (blob name.now) (store S.holds S.counts shelf.old) (store S.holds S.counts shelf.new)
+        (seen (λ bytes. bytes.items) result) }
+    ensures short { IfOk result (λ bytes. length bytes.items ≤ blob_limit) }
+{
+    fetched(alloc, shelf, name)
+}
+
+fn fetched<S: Shelf>(alloc: Global, shelf: &mut S, name: &str) -> Result<Vec<u8>, Refusal>
+    requires { IsTrue (is_name name.now) }
+    ensures bytes { Reads name.now (store S.holds S.counts shelf.old) (store S.holds S.counts shelf.new)
+        (seen (λ bytes. bytes.items) result) }
+    ensures short { IfOk result (λ bytes. length bytes.items ≤ blob_limit) }
+{
+    match fetch(alloc, shelf, name, BLOB_LIMIT) {
+        Ok(bytes) => Ok(bytes),
+        Err(FetchError::Missing) => Err(Refusal::Missing(Text::of(alloc, name)?)),
+        Err(FetchError::Fault) => Err(Refusal::ReadFault(Text::of(alloc, name)?)),
+        Err(FetchError::TooLong) => Err(Refusal::TooLong(Text::of(alloc, name)?)),
+        Err(FetchError::Memory) => Err(Refusal::Memory),
+    }
+}
+
+/// The register that a blob holds.
+#[tactic(auto, using(outcome_terms::proofs::Readings::reading_rules), unfolding(outcome_terms::specs::Registers::register_under))]
+pub fn register_under<S: Shelf>(
+    alloc: Global,
+    shelf: &mut S,
+    name: &str,
+) -> Result<Register, Refusal>
+    requires { IsTrue (is_name name.now) }
+    ensures { Follows (register_under name.now) (store S.holds S.counts shelf.old) (store S.holds S.counts shelf.new) result }
+{
+    let bytes = bytes_under(alloc, shelf, name)?;
+    register_of_bytes(alloc, bytes)
+}
+
+fn register_of_bytes(alloc: Global, bytes: Vec<u8>) -> Result<Register, Refusal>
+    ensures { Settles result (understood BadRegister (register_of bytes.items)) }
+{
+    match Register::read(alloc, bytes.as_slice()) {
+        Ok(register) => Ok(register),
+        Err(RegisterReadError::NotRegister(fault)) => {
+            Err(Refusal::Content(Fault::BadRegister(fault)))
+        }
+        Err(RegisterReadError::Memory) => Err(Refusal::Memory),
+    }
+}

@@ -1,0 +1,10 @@
+-- The commands with their arguments. This project's own.
+use Rattle.std.specs.Prelude.{ℕ, List}
+
+pub data Request : Type 0 where
+  -- make a register of codewords over GF(2^m) with dimension k, multiplier a and shift b, and write it to `out`
+  Make : (m k a b : ℕ) (out : List ℕ) → Request
+  -- enrol the name in the register, and write it to `out`
+  Enrol : (register name out : List ℕ) → Request
+  -- report who agrees with the word, for coalitions of at most c
+  Accuse : (register word : List ℕ) (c : ℕ) → Request

@@ -1,0 +1,50 @@
+//! `enrol`: a register with one more licensee.
+
+ghost use Rattle.std.specs.Prelude.{◌≡◌, IsTrue};
+ghost use Rattle.text_terms.specs.Names.{is_name};
+ghost use Rattle.outcome_terms.specs.EnrolCommand.{enrol, enrolled};
+ghost use Rattle.outcome_terms.specs.Stores.{Exactly, Follows, Settles, seen, store};
+
+use command_io::register_under;
+use lic_register::{EnrolError, Register};
+use lists::Text;
+use outcome_terms::{Fault, Refusal};
+use shelf_io::Shelf;
+use std::alloc::Global;
+use steps::{Ledger, Steps};
+
+/// The text of the register with one more licensee.
+#[tactic(auto, using(outcome_terms::proofs::Readings::reading_rules), unfolding(outcome_terms::specs::EnrolCommand::enrol))]
+pub fn enrolled_text<S: Shelf, Q: Ledger>(
+    alloc: Global,
+    shelf: &mut S,
+    register: &str,
+    name: &str,
+    out: &str,
+    looks: &mut Steps<Q>,
+) -> Result<Vec<u8>, Refusal>
+    requires { IsTrue (is_name register.now) }
+    ensures { Follows (enrol register.now name.now out.now) (store S.holds S.counts shelf.old) (store S.holds S.counts shelf.new)
+        (seen (λ text. Exactly text.items) result) }
+{
+    if out == register {
+        return Err(Refusal::Content(Fault::SameName(Text::of(alloc, out)?)));
+    }
+    let mut register = register_under(alloc, shelf, register)?;
+    enrol(&mut register, name)?;
+    Ok(register.write(alloc, looks)?)
+}
+
+/// Enrols the name.
+#[tactic(auto, unfolding(outcome_terms::specs::EnrolCommand::enrolled))]
+fn enrol(register: &mut Register, name: &str) -> Result<(), Refusal>
+    ensures { Settles (seen (λ _. register.new) result) (enrolled register.old name.now) }
+{
+    match register.enrol(name) {
+        Ok(_) => Ok(()),
+        Err(EnrolError::BadName) => Err(Refusal::Content(Fault::BadName)),
+        Err(EnrolError::NameTaken(serial)) => Err(Refusal::Content(Fault::NameTaken(serial))),
+        Err(EnrolError::Full(licensees)) => Err(Refusal::Content(Fault::Full(licensees))),
+        Err(EnrolError::Memory) => Err(Refusal::Memory),
+    }
+}

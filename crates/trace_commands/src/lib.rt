@@ -1,0 +1,11 @@
+//! The commands that trace copied words: what each reads, and the report that it puts out.
+#![tactic(auto)]
+
+mod accuse_command;
+mod field;
+mod report;
+mod scan;
+mod valid;
+mod word;
+
+pub use accuse_command::accuse;
