@@ -3,15 +3,17 @@ use Rattle.std.specs.Prelude.{IsTrue}
 use Rattle.text_terms.specs.Names.{is_name}
 use Rattle.cli_words.specs.declared.commands.Command.{Command}
 use Rattle.cli_words.specs.declared.commands.Command.TheVariants as command
-use Rattle.outcome_terms.specs.Request.{Request, Make, Enrol, Accuse}
+use Rattle.outcome_terms.specs.Request.{Request, Make, Enrol, Withdraw, Accuse}
 
 abbrev pub request : Command → Request
 request (command.Register m k a b out) = Make m k a b out.now
 request (command.Enrol reg name out) = Enrol reg.now name.now out.now
+request (command.Withdraw reg name out) = Withdraw reg.now name.now out.now
 request (command.Accuse reg word c) = Accuse reg.now word.now c
 
 -- each blob's name in a command has the form of one
 abbrev pub HasNames : Command → Type 0
 HasNames (command.Register m k a b out) = IsTrue (is_name out.now)
 HasNames (command.Enrol reg name out) = IsTrue (is_name reg.now) × IsTrue (is_name out.now)
+HasNames (command.Withdraw reg name out) = IsTrue (is_name reg.now) × IsTrue (is_name out.now)
 HasNames (command.Accuse reg word c) = IsTrue (is_name reg.now) × IsTrue (is_name word.now)

@@ -9,6 +9,7 @@ ghost use Rattle.text_terms.specs.Numbers.{number_of};
 ghost use Rattle.outcome_terms.specs.Words.{named as blob_name};
 ghost use Rattle.outcome_terms.specs.RegisterCommand.{make_from, make_of};
 ghost use Rattle.outcome_terms.specs.EnrolCommand.{enrol_of};
+ghost use Rattle.outcome_terms.specs.WithdrawCommand.{withdraw_of};
 ghost use Rattle.outcome_terms.specs.AccuseCommand.{accuse_of};
 ghost use Rattle.outcome_terms.specs.Commands.{request_of};
 ghost use Rattle.cli_words.specs.Requests.{request, HasNames};
@@ -42,6 +43,15 @@ pub enum Command<'a> {
         /// Name of the blob to write.
         out: &'a str,
     },
+    /// Writes a register with a licensee withdrawn.
+    Withdraw {
+        /// Name of the register's blob.
+        reg: &'a str,
+        /// Name of the licensee, as given.
+        name: &'a str,
+        /// Name of the blob to write.
+        out: &'a str,
+    },
     /// Reports whose codewords agree with a word.
     Accuse {
         /// Name of the register's blob.
@@ -64,6 +74,8 @@ pub fn read_words<'a>(words: &'a [String]) -> Option<Command<'a>>
         register_words(arguments)
     } else if is_word(command, "enrol") {
         enrol_words(arguments)
+    } else if is_word(command, "withdraw") {
+        withdraw_words(arguments)
     } else if is_word(command, "accuse") {
         accuse_words(arguments)
     } else {
@@ -134,6 +146,20 @@ fn enrol_words<'a>(arguments: &'a [String]) -> Option<Command<'a>>
     let name = named(name)?;
     let out = named(out)?;
     Some(Command::Enrol { reg, name, out })
+}
+
+#[tactic(auto, unfolding(outcome_terms::specs::WithdrawCommand::withdraw_of))]
+fn withdraw_words<'a>(arguments: &'a [String]) -> Option<Command<'a>>
+    ensures asked { option_map request result ≡ withdraw_of (map string_bytes arguments.now) }
+    ensures names { IfSome result HasNames }
+{
+    let [reg, name, out] = arguments else {
+        return None;
+    };
+    let reg = named(reg)?;
+    let name = named(name)?;
+    let out = named(out)?;
+    Some(Command::Withdraw { reg, name, out })
 }
 
 #[tactic(auto, unfolding(outcome_terms::specs::AccuseCommand::accuse_of))]

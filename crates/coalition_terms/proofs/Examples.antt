@@ -11,8 +11,9 @@ use Rattle.code_terms.specs.Symbols.{symbol_of}
 use Rattle.code_terms.specs.Words.{slot_at, three_colluders}
 use Rattle.desk_terms.specs.Examples.{first_licensees}
 use Rattle.register_terms.specs.Enrolment.{Enrolment, IsValid, message_of}
-use Rattle.register_terms.specs.RegisterText.{register_of, header_at, names_at}
-use Rattle.register_terms.proofs.Read.{read_was_written}
+use Rattle.form_terms.specs.Forms.{before, followed, give, demand, next_line, said, row, number_row, require, rows_after, lines_left, the_end}
+use Rattle.register_terms.specs.RegisterText.{header_form, licensee_row, licensees_form, register_form, register_of}
+use Rattle.register_terms.proofs.Texts.{read_was_written}
 use Rattle.coalition_terms.specs.Distance.{common_places}
 use Rattle.coalition_terms.specs.Coalition.{IsCoalition, Explains}
 
@@ -65,7 +66,7 @@ colluders_explain = explained_by (first_licensees 20) (0 ∷ 1 ∷ 16 ∷ []) th
 
 -- their register, from its text
 licensees_read : register_of (codes "register 1\nm 4\nk 2\na 1\nb 0\nlic0\nlic1\nlic2\nlic3\nlic4\nlic5\nlic6\nlic7\nlic8\nlic9\nlic10\nlic11\nlic12\nlic13\nlic14\nlic15\nlic16\nlic17\nlic18\nlic19\n") ≡ Ok (first_licensees 20)
-unfolding header_at names_at digits
+unfolding before followed give demand next_line said row number_row require rows_after lines_left the_end header_form licensee_row licensees_form register_form register_of digits
 licensees_read = refl
 
 pub licensees_valid : IsValid (first_licensees 20)

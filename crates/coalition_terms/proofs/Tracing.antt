@@ -110,7 +110,7 @@ module _ (e : Enrolment) (word : List (Option ℕ)) (c : ℕ) (members : List �
   module _ (valid : IsValid e) (short : length word ≤ 2 ^ e.bits) (some : 1 ≤ c) (enough : not_enough e c < readable word)
       (coalition : IsCoalition e c members) (explains : Explains e members word) where
     -- a licensee who is no member has fewer symbols than the dimension in common with a member
-    common-few : (i j : ℕ) → i < length e.names → j < length e.names → i ≢ j → length (common_places e.bits e.dimension (message_of e i) (message_of e j) (length word)) ≤ e.dimension - 1
+    common-few : (i j : ℕ) → i < length e.licensees → j < length e.licensees → i ≢ j → length (common_places e.bits e.dimension (message_of e i) (message_of e j) (length word)) ≤ e.dimension - 1
     common-few i j is js other =
         let room : 0 < message_count e = pow_pos (e.bits * e.dimension) in
         let far = far_apart e.bits e.dimension (length word) (message_of e i) (message_of e j) valid.bits_low valid.bits_high short
@@ -120,7 +120,7 @@ module _ (e : Enrolment) (word : List (Option ℕ)) (c : ℕ) (members : List �
         omega arith
 
     -- so one who meets the threshold is a member
-    is_member : (j : ℕ) → j < length e.names → meets_threshold e word c j ≡ true → Contains members j
+    is_member : (j : ℕ) → j < length e.licensees → meets_threshold e word c j ≡ true → Contains members j
     is_member j enrolled meets = elim (member_or_none members j) [
       | inl at ↦ at
       | inr none ↦
@@ -152,7 +152,7 @@ module _ (e : Enrolment) (word : List (Option ℕ)) (c : ℕ) (members : List �
 
     only_members : All (λ j. Contains members j) (filter (meets_threshold e word c) (serials e))
     only_members k d within =
-        let n : ℕ = length e.names in
+        let n : ℕ = length e.licensees in
         let long : length (serials e) ≡ n = length-range_with_len 0 n in
         is_member (get_or (filter (meets_threshold e word c) (serials e)) k d)
         (All-filter (meets_threshold e word c) (λ j. j < n) (serials e) (λ i d inside. omega (arith, get_or-range_with_len 0 n i d (omega arith))) k d within)
@@ -164,12 +164,12 @@ module _ (e : Enrolment) (word : List (Option ℕ)) (c : ℕ) (members : List �
       | inr none ↦ absurd (too_few (λ k d within. below none (get_or members k d) (coalition.enrolled k d within) (leb_tells (readable word) (licensee_agreement e word (get_or members k d) * c))))
     ]
       where
-        below : length (filter (meets_threshold e word c) (serials e)) ≤ 0 → (j : ℕ) → j < length e.names
+        below : length (filter (meets_threshold e word c) (serials e)) ≤ 0 → (j : ℕ) → j < length e.licensees
             → (nat_le (readable word) (licensee_agreement e word j * c) ≡ true) × (readable word ≤ licensee_agreement e word j * c) ⊎ (nat_le (readable word) (licensee_agreement e word j * c) ≡ false) × (licensee_agreement e word j * c < readable word)
             → licensee_agreement e word j * c < readable word
         below none j enrolled (inr less) = less.1
         below none j enrolled (inl meets) =
-            let n : ℕ = length e.names in
+            let n : ℕ = length e.licensees in
             let long : length (serials e) ≡ n = length-range_with_len 0 n in
             let here : get_or (serials e) j 0 ≡ j = get_or-range_with_len 0 n j 0 enrolled ∙ omega arith in
             let passes : meets_threshold e word c (get_or (serials e) j 0) ≡ true = ap (meets_threshold e word c) here ∙ meets.0 in

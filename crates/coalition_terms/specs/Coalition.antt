@@ -9,7 +9,7 @@ use Rattle.register_terms.specs.Enrolment.{Enrolment, message_of}
 
 -- at most c serials, each of an enrolled licensee
 pub record IsCoalition (e : Enrolment) (c : ℕ) (members : List ℕ) : Type 0 where
-  pub enrolled : All (λ j. j < length e.names) members
+  pub enrolled : All (λ j. j < length e.licensees) members
   pub few : length members ≤ c
 
 -- each symbol of the word is the symbol that some member has at that place

@@ -35,7 +35,7 @@ accused_below-more e word c n =
     ap (λ js. map (accusation e word) (filter (meets_threshold e word c) js)) (rw add-one (range_more 0 n n (zero-add n)))
     ∙ chosen-push (accusation e word) (meets_threshold e word c) (range_with_len 0 n) n
 
-pub accused_below-all : (e : Enrolment) (word : List (Option ℕ)) (c n : ℕ) → length e.names ≡ n → accused_below e word c n ≡ (findings e word c).accused
+pub accused_below-all : (e : Enrolment) (word : List (Option ℕ)) (c n : ℕ) → length e.licensees ≡ n → accused_below e word c n ≡ (findings e word c).accused
 unfolding accused_below findings
 accused_below-all e word c n same = ap (λ m. map (accusation e word) (filter (meets_threshold e word c) (range_with_len 0 m))) (sym same)
 

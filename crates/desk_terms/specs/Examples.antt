@@ -1,12 +1,13 @@
 -- Small registers and words that were worked out by hand.
-use Rattle.std.specs.Prelude.{ℕ, List, [], ◌∷◌, ◌++◌, map, Option, Some, None, codes}
+use Rattle.std.specs.Prelude.{ℕ, true, List, [], ◌∷◌, ◌++◌, map, Option, Some, None, codes}
 use Rattle.std.specs.List.{range_with_len}
 use Rattle.std.specs.Fmt.{decimal}
 use Rattle.register_terms.specs.Enrolment.{Enrolment}
+use Rattle.register_terms.specs.RegisterText.{in_state}
 
 -- the licensees `lic0`, `lic1` and so on, over GF(16) with dimension 2, each with its serial as message
 abbrev pub first_licensees : ℕ → Enrolment
-first_licensees n = record { bits = 4; dimension = 2; multiplier = 1; shift = 0; names = map (λ j. codes "lic" ++ decimal j) (range_with_len 0 n) }
+first_licensees n = record { bits = 4; dimension = 2; multiplier = 1; shift = 0; licensees = map (λ j. in_state true (codes "lic" ++ decimal j)) (range_with_len 0 n) }
 
 -- the word that three colluders made, with its last place lost
 abbrev pub one_place_lost : List (Option ℕ)

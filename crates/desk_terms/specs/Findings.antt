@@ -5,7 +5,7 @@ use Rattle.std.specs.List.{range_with_len}
 use Rattle.desk_terms.specs.declared.findings.Accused.{Accused}
 use Rattle.desk_terms.specs.declared.findings.Findings.{Findings}
 use Rattle.code_terms.specs.Words.{readable, places_of, agreement_of}
-use Rattle.register_terms.specs.Enrolment.{Enrolment, message_of}
+use Rattle.register_terms.specs.Enrolment.{Enrolment, names_of, message_of}
 
 -- the number of places where the word has the symbol of the licensee with serial j
 abbrev pub licensee_agreement : Enrolment → List (Option ℕ) → ℕ → ℕ
@@ -17,11 +17,11 @@ meets_threshold e word c j = nat_le (readable word) (licensee_agreement e word j
 
 -- what is said of the licensee with serial j
 abbrev pub accusation : Enrolment → List (Option ℕ) → ℕ → Accused
-accusation e word j = record { serial = j; name = slice_index_or e.names j []; places = places_of e.bits e.dimension (message_of e j) word }
+accusation e word j = record { serial = j; name = slice_index_or (names_of e.licensees) j []; places = places_of e.bits e.dimension (message_of e j) word }
 
 -- the serials of the enrolled licensees, in order of enrolment
 abbrev pub serials : Enrolment → List ℕ
-serials e = range_with_len 0 (length e.names)
+serials e = range_with_len 0 (length e.licensees)
 
 -- everyone enrolled who meets the threshold, in order of serial, each with name and places
 unfoldable pub findings : Enrolment → List (Option ℕ) → ℕ → Findings

@@ -254,15 +254,14 @@ fn finds_one_name_too_many(rt: HostRuntime) -> Result<(), Fail> {
     Ok(())
 }
 
-/// Either text, cut behind each of its lines and within each.
-#[test]
-fn tells_where_a_text_is_cut(rt: HostRuntime) {
-    for text in [TWENTY, FOUR] {
-        for length in 0..text.len() {
-            let answer = Register::read(rt.alloc(), text.get(..length).unwrap_or(text));
-            assert_eq!(rt; told(&answer), wanted_of(text, length), "{length}");
-        }
-    }
+/// What a reader tells of a text that ends behind this line: up to the fifth the next line is missing.
+fn behind(number: u32) -> (u32, Option<RegisterKind>) {
+    let kind = if number < 5 {
+        Some(RegisterKind::Header)
+    } else {
+        None
+    };
+    (number.saturating_add(1), kind)
 }
 
 /// The line and the kind of a fault; or the line behind the last licensee.
@@ -274,22 +273,44 @@ fn told(answer: &Result<Register, RegisterReadError>) -> (u32, Option<RegisterKi
     }
 }
 
-/// The line at which a text ends that is cut there: within the line it has no ending, and behind it the next line is
-/// missing or, from the sixth on, nothing is.
-fn wanted_of(text: &[u8], length: usize) -> (u32, Option<RegisterKind>) {
-    let mut line = 1;
-    let mut ended = true;
-    for byte in text.iter().take(length) {
-        ended = *byte == b'\n';
-        line = next_line(line, ended);
+/// A text of these lines, cut within each of them and behind each.
+fn cuts(rt: &impl Abort, alloc: Global, lines: [&str; 8]) -> Result<(), Fail> {
+    let mut text = Vec::new(alloc);
+    let mut number = 0u32;
+    for line in lines {
+        number = number.saturating_add(1);
+        text.extend_from_slice(line.as_bytes())?;
+        let within = Register::read(alloc, text.as_slice());
+        assert_eq!(rt; told(&within), (number, Some(RegisterKind::Ending)));
+        text.push(b'\n')?;
+        let whole = Register::read(alloc, text.as_slice());
+        assert_eq!(rt; told(&whole), behind(number));
     }
-    match (ended, line) {
-        (false, _) => (line, Some(RegisterKind::Ending)),
-        (true, 0..=5) => (line, Some(RegisterKind::Header)),
-        (true, _) => (line, None),
-    }
+    Ok(())
 }
 
-fn next_line(line: u32, ended: bool) -> u32 {
-    if ended { line.saturating_add(1) } else { line }
+#[test]
+fn tells_where_a_text_is_cut(rt: HostRuntime) -> Result<(), Fail> {
+    let older = [
+        "register 1",
+        "m 4",
+        "k 2",
+        "a 1",
+        "b 0",
+        "lic0",
+        "lic1",
+        "lic2",
+    ];
+    let newer = [
+        "register 2",
+        "m 4",
+        "k 2",
+        "a 1",
+        "b 0",
+        "active lic0",
+        "withdrawn lic1",
+        "active a",
+    ];
+    cuts(&rt, rt.alloc(), older)?;
+    cuts(&rt, rt.alloc(), newer)
 }

@@ -9,24 +9,27 @@ use Rattle.text_terms.specs.Names.{is_plain}
 use Rattle.shelf_terms.specs.Blobs.{Blobs, blob_at}
 use Rattle.code_terms.specs.Words.{readable}
 use Rattle.code_terms.specs.WordText.{word_of}
-use Rattle.register_terms.specs.Enrolment.{Enrolment, capacity, serial_of}
-use Rattle.register_terms.specs.RegisterText.{register_of, register_text, with_name, are_bits, is_dimension, is_multiplier, is_shift}
+use Rattle.register_terms.specs.Enrolment.{Enrolment, names_of, capacity, serial_of}
+use Rattle.register_terms.specs.Rules.{empty_register, with_name, with_withdrawn, is_active, are_bits, is_dimension, is_multiplier, is_shift}
+use Rattle.register_terms.specs.RegisterText.{register_of, register_text}
 use Rattle.register_terms.proofs.Serials.{bytes_eq-own}
 use Rattle.desk_terms.specs.Findings.{findings, is_allowed_bound, not_enough}
 use Rattle.desk_terms.specs.Report.{report_text}
 use Rattle.outcome_terms.specs.declared.refusal.Refusal.{Refusal}
-use Rattle.outcome_terms.specs.declared.fault.Fault.TheVariants.{BadRegister, BadBound, TooFew, NameTaken, BadName, Full, SameName, BadWord, BadParameters}
+use Rattle.outcome_terms.specs.declared.fault.Fault.{Fault}
+use Rattle.outcome_terms.specs.declared.fault.Fault.TheVariants.{Unknown, Withdrawn, BadRegister, BadBound, TooFew, NameTaken, BadName, Full, SameName, BadWord, BadParameters}
 use Rattle.outcome_terms.specs.declared.parameter_rule.ParameterRule.TheVariants.{Bits, Dimension, Multiplier, Shift}
-use Rattle.outcome_terms.specs.Reading.{Reading, Give, ◌>>=◌, ◌>>◌, require, blob, understood, given}
+use Rattle.outcome_terms.specs.Reading.{found, Reading, Give, ◌>>=◌, ◌>>◌, require, blob, understood, given}
 use Rattle.outcome_terms.specs.Stores.{Writing, Exactly, IsWriting}
 use Rattle.outcome_terms.specs.Registers.{register_under}
 use Rattle.outcome_terms.specs.RegisterCommand.{make}
 use Rattle.outcome_terms.specs.EnrolCommand.{enrolled, enrol}
+use Rattle.outcome_terms.specs.WithdrawCommand.{withdrawn, withdraw}
 use Rattle.outcome_terms.specs.AccuseCommand.{allowed, word_under, report, accuse}
 use Rattle.outcome_terms.specs.Outcome.{HasWritten, Puts, Wrote, puts, writes}
 use Rattle.outcome_terms.specs.Output.{Output}
 use Rattle.outcome_terms.specs.Call.{HasEffect, TellsWhole}
-use Rattle.outcome_terms.specs.Reports.{HoldsRegister, HoldsWord, MakesRegister, EnrolsName, IsReport, PutsReport, TellsReport}
+use Rattle.outcome_terms.specs.Reports.{HoldsRegister, HoldsWord, MakesRegister, EnrolsName, WithdrawsName, IsReport, PutsReport, TellsReport}
 use Rattle.outcome_terms.proofs.Givens.{took, met, not_found, was_given, was_understood, was_held}
 
 register_held : (blobs : Blobs) (name : List ℕ) (e : Enrolment) → given blobs (register_under name) ≡ Ok e → HoldsRegister blobs name e
@@ -68,22 +71,40 @@ register_made blobs m k a b out told before after h =
       dimension = dimension.so;
       multiplier = multiplier.so;
       shift = shift.so;
-      after = exactly blobs out (register_text (record { bits = m; dimension = k; multiplier = a; shift = b; names = [] })) w.writing told (was_given blobs _ w.writing shift.then) w.has;
+      after = exactly blobs out (register_text (empty_register m k a b)) w.writing told (was_given blobs _ w.writing shift.then) w.has;
     }
 
 record Joined (e : Enrolment) (name : List ℕ) (f : Enrolment) : Type 0 where
   plain : is_plain name ≡ true
-  new_name : serial_of e.names name ≡ None
-  room : length e.names < capacity e
+  new_name : serial_of (names_of e.licensees) name ≡ None
+  room : length e.licensees < capacity e
   is : with_name e name ≡ f
 
 joined : (blobs : Blobs) (e : Enrolment) (name : List ℕ) (f : Enrolment) → given blobs (enrolled e name) ≡ Ok f → Joined e name f
 unfolding enrolled
 joined blobs e name f h =
     let plain = met blobs (is_plain name) BadName _ f h in
-    let none = not_found blobs NameTaken (serial_of e.names name) _ f plain.then in
-    let room = met blobs (nat_lt (length e.names) (capacity e)) (Full (length e.names)) _ f none.then in
+    let none = not_found blobs NameTaken (serial_of (names_of e.licensees) name) _ f plain.then in
+    let room = met blobs (nat_lt (length e.licensees) (capacity e)) (Full (length e.licensees)) _ f none.then in
     record { plain = plain.so; new_name = none.none; room = (let so = room.so in grind (arith, nat_tests)); is = was_given blobs (with_name e name) f room.then }
+
+record Left (e : Enrolment) (name : List ℕ) (f : Enrolment) : Type 0 where
+  serial : ℕ
+  enrolled : serial_of (names_of e.licensees) name ≡ Some serial
+  active : is_active e serial ≡ true
+  is : with_withdrawn e serial ≡ f
+
+was_found : {A : Type 0} (blobs : Blobs) (fault : Fault) (o : Option A) (x : A) → given blobs (found fault o) ≡ Ok x → o ≡ Some x
+unfolding given
+was_found blobs fault (Some y) x h = ap Some (was_given blobs y x h)
+was_found blobs fault None x h = cc
+
+left : (blobs : Blobs) (e : Enrolment) (name : List ℕ) (f : Enrolment) → given blobs (withdrawn e name) ≡ Ok f → Left e name f
+unfolding withdrawn
+left blobs e name f h =
+    let first = took blobs (found (Unknown name) (serial_of (names_of e.licensees) name)) _ f h in
+    let active = met blobs (is_active e first.value) (Withdrawn name) _ f first.then in
+    record { serial = first.value; enrolled = was_found blobs (Unknown name) (serial_of (names_of e.licensees) name) first.value first.first; active = active.so; is = was_given blobs (with_withdrawn e first.value) f active.then }
 
 differs : (x y : List ℕ) → not (bytes_eq x y) ≡ true → x ≢ y
 differs x y h same =
@@ -166,3 +187,21 @@ pub report_told : (blobs : Blobs) (register word : List ℕ) (c : ℕ) (before a
 report_told blobs register word c (Some before) (Some after) h = record { text = h.text; is_report = h.is_report; put = h.put }
 report_told blobs register word c (Some before) None h = h.put
 report_told blobs register word c None after h = tt
+
+pub name_withdrawn : (blobs : Blobs) (register name out : List ℕ) (told : Option Blobs) (before after : Output) → HasEffect (writes out (given blobs (withdraw register name out))) blobs told before after → WithdrawsName blobs register name out told
+unfolding withdraw
+name_withdrawn blobs register name out told before after h =
+    let w = written blobs out (given blobs (withdraw register name out)) told before after h in
+    let other = met blobs (not (bytes_eq out register)) (SameName out) _ w.writing w.is in
+    let first = took blobs (register_under register) _ w.writing other.then in
+    let second = took blobs (withdrawn first.value name) _ w.writing first.then in
+    let l = left blobs first.value name second.value second.first in
+    record {
+      enrolment = first.value;
+      serial = l.serial;
+      holds_register = register_held blobs register first.value first.first;
+      other = differs out register other.so;
+      enrolled = l.enrolled;
+      active = l.active;
+      after = exactly blobs out (register_text (with_withdrawn first.value l.serial)) w.writing told (ap (λ f. Exactly (register_text f)) l.is ∙ was_given blobs _ w.writing second.then) w.has;
+    }

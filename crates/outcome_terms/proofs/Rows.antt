@@ -7,22 +7,23 @@ use Rattle.text_terms.specs.Names.{is_plain}
 use Rattle.code_terms.specs.declared.word_fault.WordFault.{WordFault}
 use Rattle.code_terms.specs.Words.{readable}
 use Rattle.code_terms.specs.WordText.{word_of}
-use Rattle.register_terms.specs.declared.fault.RegisterFault.{RegisterFault}
-use Rattle.register_terms.specs.Enrolment.{Enrolment, capacity, serial_of}
-use Rattle.register_terms.specs.RegisterText.{register_of, register_text, with_name, are_bits, is_dimension, is_multiplier, is_shift}
+use Rattle.register_terms.specs.Enrolment.{Enrolment, names_of, capacity, serial_of}
+use Rattle.register_terms.specs.Rules.{empty_register, with_name, is_active, are_bits, is_dimension, is_multiplier, is_shift}
+use Rattle.register_terms.specs.RegisterText.{RegisterFault, register_of, register_text}
 use Rattle.desk_terms.specs.Findings.{findings, is_allowed_bound, not_enough}
 use Rattle.desk_terms.specs.Report.{report_text}
 use Rattle.outcome_terms.specs.declared.status.Status.{Status}
 use Rattle.outcome_terms.specs.declared.fault.Fault.{Fault}
-use Rattle.outcome_terms.specs.declared.fault.Fault.TheVariants.{BadRegister, BadBound, TooFew, NameTaken, BadName, Full, SameName, BadWord, BadParameters}
+use Rattle.outcome_terms.specs.declared.fault.Fault.TheVariants.{Unknown, Withdrawn, BadRegister, BadBound, TooFew, NameTaken, BadName, Full, SameName, BadWord, BadParameters}
 use Rattle.outcome_terms.specs.declared.parameter_rule.ParameterRule.TheVariants.{Bits, Dimension, Multiplier, Shift}
 use Rattle.outcome_terms.specs.declared.refusal.Refusal.{Refusal}
 use Rattle.outcome_terms.specs.Statuses.{fault_line}
-use Rattle.outcome_terms.specs.Reading.{Reading, Give, Refuse, Read, ◌>>=◌, ◌>>◌, require, blob, understood, AllowsReads, Within}
+use Rattle.outcome_terms.specs.Reading.{Reading, Give, Refuse, Read, ◌>>=◌, ◌>>◌, require, found, blob, understood, AllowsReads, Within}
 use Rattle.outcome_terms.specs.Stores.{Writing, Exactly}
 use Rattle.outcome_terms.specs.Registers.{register_under}
 use Rattle.outcome_terms.specs.RegisterCommand.{make, make_statuses}
 use Rattle.outcome_terms.specs.EnrolCommand.{enrolled, enrol, enrol_statuses}
+use Rattle.outcome_terms.specs.WithdrawCommand.{withdrawn, withdraw, withdraw_statuses}
 use Rattle.outcome_terms.specs.AccuseCommand.{allowed, word_under, report, accuse, accuse_statuses}
 use Rattle.outcome_terms.specs.Commands.{may_end}
 use Rattle.outcome_terms.specs.Outcome.{first_refusal}
@@ -57,6 +58,11 @@ module _ (may : Status → Bool) where
   within_none fault None next h g = g
   within_none fault (Some x) next h g = h x
 
+  pub within_found : {A : Type 0} (fault : Fault) (o : Option A) → may (fault_line fault).status ≡ true → Within may (found fault o)
+  unfolding Within
+  within_found fault None h = h
+  within_found fault (Some x) h = tt
+
   -- where the words do not refuse, the demand is met
   pub within_words : {A : Type 0} (is_so : Bool) (fault : Fault) (next : Reading A) → first_refusal (require is_so fault >> next) ≡ None → (first_refusal next ≡ None → Within may next) → Within may (require is_so fault >> next)
   within_words true fault next is h = h is
@@ -83,8 +89,8 @@ enrolled_within : (e : Enrolment) (name : List ℕ) → Within (may_end enrol_st
 unfolding enrolled
 enrolled_within e name =
     let may = may_end enrol_statuses in
-    within_met may (is_plain name) BadName _ refl (within_none may NameTaken (serial_of e.names name) _ (λ serial. refl)
-    (within_met may (nat_lt (length e.names) (capacity e)) (Full (length e.names)) _ refl (within_give may _)))
+    within_met may (is_plain name) BadName _ refl (within_none may NameTaken (serial_of (names_of e.licensees) name) _ (λ serial. refl)
+    (within_met may (nat_lt (length e.licensees) (capacity e)) (Full (length e.licensees)) _ refl (within_give may _)))
 
 pub enrol_within : (register name out : List ℕ) → first_refusal (enrol register name out) ≡ None → Within (may_end enrol_statuses) (enrol register name out)
 unfolding enrol
@@ -93,6 +99,21 @@ enrol_within register name out is =
     let reads : AllowsReads may = record { missing = refl; failed = refl; long = refl } in
     within_words may (not (bytes_eq out register)) (SameName out) _ is (λ is. within_then may (register_under register) _ (register_within may register reads (λ f. refl))
     (λ e. within_then may (enrolled e name) _ (enrolled_within e name) (λ f. within_give may _)))
+
+withdrawn_within : (e : Enrolment) (name : List ℕ) → Within (may_end withdraw_statuses) (withdrawn e name)
+unfolding withdrawn
+withdrawn_within e name =
+    let may = may_end withdraw_statuses in
+    within_then may (found (Unknown name) (serial_of (names_of e.licensees) name)) _ (within_found may (Unknown name) (serial_of (names_of e.licensees) name) refl)
+    (λ serial. within_met may (is_active e serial) (Withdrawn name) _ refl (within_give may _))
+
+pub withdraw_within : (register name out : List ℕ) → first_refusal (withdraw register name out) ≡ None → Within (may_end withdraw_statuses) (withdraw register name out)
+unfolding withdraw
+withdraw_within register name out is =
+    let may = may_end withdraw_statuses in
+    let reads : AllowsReads may = record { missing = refl; failed = refl; long = refl } in
+    within_words may (not (bytes_eq out register)) (SameName out) _ is (λ is. within_then may (register_under register) _ (register_within may register reads (λ f. refl))
+    (λ e. within_then may (withdrawn e name) _ (withdrawn_within e name) (λ f. within_give may _)))
 
 allowed_within : (k c : ℕ) → Within (may_end accuse_statuses) (allowed k c)
 unfolding allowed

@@ -3,8 +3,9 @@ use Rattle.std.specs.Prelude.{ℕ, List, [], ◌∷◌, length, not, nat_lt, Opt
 use Rattle.std.specs.Option.{option_map}
 use Rattle.std.specs.Str.{bytes_eq}
 use Rattle.text_terms.specs.Names.{is_plain}
-use Rattle.register_terms.specs.Enrolment.{Enrolment, capacity, serial_of}
-use Rattle.register_terms.specs.RegisterText.{register_text, with_name}
+use Rattle.register_terms.specs.Enrolment.{Enrolment, names_of, capacity, serial_of}
+use Rattle.register_terms.specs.Rules.{with_name}
+use Rattle.register_terms.specs.RegisterText.{register_text}
 use Rattle.outcome_terms.specs.declared.fault.Fault.TheVariants.{BadName, NameTaken, Full, SameName}
 use Rattle.outcome_terms.specs.Request.{Request, Enrol}
 use Rattle.outcome_terms.specs.Words.{◌>>?◌, named}
@@ -21,8 +22,8 @@ enrol_of _ = None
 unfoldable pub enrolled : Enrolment → List ℕ → Reading Enrolment
 enrolled e name = do
   require (is_plain name) BadName
-  option_map NameTaken (serial_of e.names name)
-  require (nat_lt (length e.names) (capacity e)) (Full (length e.names))
+  option_map NameTaken (serial_of (names_of e.licensees) name)
+  require (nat_lt (length e.licensees) (capacity e)) (Full (length e.licensees))
   Give (with_name e name)
 
 -- the text of the register with the name

@@ -6,6 +6,7 @@ pub mod Stores
 pub mod Registers
 pub mod RegisterCommand
 pub mod EnrolCommand
+pub mod WithdrawCommand
 pub mod AccuseCommand
 pub mod Commands
 pub mod Outcome

@@ -40,6 +40,11 @@ abbrev pub understood : {A F : Type 0} → (F → Fault) → Result A F → Read
 understood fault (Ok x) = Give x
 understood fault (Err f) = Refuse (fault f)
 
+-- what was looked for, or a refusal where it is not there
+abbrev pub found : {A : Type 0} → Fault → Option A → Reading A
+found fault (Some x) = Give x
+found fault None = Refuse fault
+
 -- a reading of each, one after the other
 unfoldable pub each : {X A : Type 0} → (X → Reading A) → List X → Reading (List A)
 each step [] = Give []

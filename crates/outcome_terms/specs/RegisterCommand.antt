@@ -1,7 +1,8 @@
 -- `register M K A B OUT`: a register without licensees. This project's own.
 use Rattle.std.specs.Prelude.{ℕ, List, [], ◌∷◌, Option, Some, None}
 use Rattle.text_terms.specs.Numbers.{number_of}
-use Rattle.register_terms.specs.RegisterText.{register_text, are_bits, is_dimension, is_multiplier, is_shift}
+use Rattle.register_terms.specs.Rules.{empty_register, are_bits, is_dimension, is_multiplier, is_shift}
+use Rattle.register_terms.specs.RegisterText.{register_text}
 use Rattle.outcome_terms.specs.declared.fault.Fault.TheVariants.{BadParameters}
 use Rattle.outcome_terms.specs.declared.parameter_rule.ParameterRule.TheVariants.{Bits, Dimension, Multiplier, Shift}
 use Rattle.outcome_terms.specs.Request.{Request, Make}
@@ -25,7 +26,7 @@ make m k a b = do
   require (is_dimension k) (BadParameters Dimension)
   require (is_multiplier m k a) (BadParameters Multiplier)
   require (is_shift m k b) (BadParameters Shift)
-  Give (Exactly (register_text (record { bits = m; dimension = k; multiplier = a; shift = b; names = [] })))
+  Give (Exactly (register_text (empty_register m k a b)))
 
 -- the numbers of the statuses that it ends with, where the words do not refuse it
 abbrev pub make_statuses : List ℕ

@@ -5,8 +5,9 @@ use Rattle.text_terms.specs.Names.{is_plain}
 use Rattle.shelf_terms.specs.Blobs.{Blobs, blob_at}
 use Rattle.code_terms.specs.Words.{readable}
 use Rattle.code_terms.specs.WordText.{word_of}
-use Rattle.register_terms.specs.Enrolment.{Enrolment, capacity, serial_of}
-use Rattle.register_terms.specs.RegisterText.{register_of, register_text, with_name, are_bits, is_dimension, is_multiplier, is_shift}
+use Rattle.register_terms.specs.Enrolment.{Enrolment, names_of, capacity, serial_of}
+use Rattle.register_terms.specs.Rules.{empty_register, with_name, with_withdrawn, is_active, are_bits, is_dimension, is_multiplier, is_shift}
+use Rattle.register_terms.specs.RegisterText.{register_of, register_text}
 use Rattle.desk_terms.specs.Findings.{findings, is_allowed_bound, not_enough}
 use Rattle.desk_terms.specs.Report.{report_text}
 
@@ -28,7 +29,7 @@ pub record MakesRegister (blobs : Blobs) (m k a b : ℕ) (out : List ℕ) (told 
   pub dimension : is_dimension k ≡ true
   pub multiplier : is_multiplier m k a ≡ true
   pub shift : is_shift m k b ≡ true
-  pub after : told ≡ Some (insert blobs out (register_text (record { bits = m; dimension = k; multiplier = a; shift = b; names = [] })))
+  pub after : told ≡ Some (insert blobs out (register_text (empty_register m k a b)))
 
 -- another name holds the register with one more licensee, who has the next serial
 pub record EnrolsName (blobs : Blobs) (register name out : List ℕ) (told : Option Blobs) : Type 0 where
@@ -36,9 +37,19 @@ pub record EnrolsName (blobs : Blobs) (register name out : List ℕ) (told : Opt
   pub holds_register : HoldsRegister blobs register enrolment
   pub other : out ≢ register
   pub plain : is_plain name ≡ true
-  pub new_name : serial_of enrolment.names name ≡ None
-  pub room : length enrolment.names < capacity enrolment
+  pub new_name : serial_of (names_of enrolment.licensees) name ≡ None
+  pub room : length enrolment.licensees < capacity enrolment
   pub after : told ≡ Some (insert blobs out (register_text (with_name enrolment name)))
+
+-- another name holds the register with the licensee of this name, who was active, withdrawn, and all else as it was
+pub record WithdrawsName (blobs : Blobs) (register name out : List ℕ) (told : Option Blobs) : Type 0 where
+  pub enrolment : Enrolment
+  pub serial : ℕ
+  pub holds_register : HoldsRegister blobs register enrolment
+  pub other : out ≢ register
+  pub enrolled : serial_of (names_of enrolment.licensees) name ≡ Some serial
+  pub active : is_active enrolment serial ≡ true
+  pub after : told ≡ Some (insert blobs out (register_text (with_withdrawn enrolment serial)))
 
 -- The text is the report of exactly the enrolled licensees who agree with at least r/c of the r readable places, for the register
 -- and the word that the two blobs hold.

@@ -6,5 +6,7 @@ pub data Request : Type 0 where
   Make : (m k a b : ℕ) (out : List ℕ) → Request
   -- enrol the name in the register, and write it to `out`
   Enrol : (register name out : List ℕ) → Request
+  -- withdraw the licensee of this name in the register, and write it to `out`
+  Withdraw : (register name out : List ℕ) → Request
   -- report who agrees with the word, for coalitions of at most c
   Accuse : (register word : List ℕ) (c : ℕ) → Request

@@ -29,9 +29,11 @@ status_code status.TooFew = 15
 status_code status.NameTaken = 16
 status_code status.BadName = 17
 status_code status.Full = 18
+status_code status.Unknown = 19
 status_code status.SameName = 21
 status_code status.BadWord = 23
 status_code status.BadParameters = 24
+status_code status.Withdrawn = 27
 
 -- how a line breaks the form of a register
 abbrev pub kind_text : RegisterKind → List ℕ
@@ -41,6 +43,7 @@ kind_text kind.BadM = codes "bad-m"
 kind_text kind.BadK = codes "bad-k"
 kind_text kind.BadMultiplier = codes "bad-multiplier"
 kind_text kind.BadShift = codes "bad-shift"
+kind_text kind.BadStatus = codes "bad-status"
 kind_text kind.BadName = codes "bad-name"
 kind_text kind.NameTaken = codes "name-taken"
 kind_text kind.Full = codes "full"
@@ -73,6 +76,8 @@ fault_line (fault.TooFew readable not_enough) = says status.TooFew (decimal read
 fault_line (fault.NameTaken serial) = says status.NameTaken (decimal serial)
 fault_line fault.BadName = says status.BadName (codes "name")
 fault_line (fault.Full licensees) = says status.Full (decimal licensees)
+fault_line (fault.Unknown name) = says status.Unknown name
+fault_line (fault.Withdrawn name) = says status.Withdrawn name
 fault_line (fault.SameName name) = says status.SameName name
 fault_line (fault.BadWord at) = says status.BadWord (word_fault_text at)
 fault_line (fault.BadParameters broken) = says status.BadParameters (rule_text broken)

@@ -25,6 +25,10 @@ pub enum Fault {
     BadName,
     /// The register is full with so many licensees.
     Full(u32),
+    /// No licensee has the name.
+    Unknown(Text),
+    /// The licensee with this name is withdrawn.
+    Withdrawn(Text),
     /// This blob is both read and to be written.
     SameName(Text),
     /// The blob is no word: the first token that breaks the form, or too many.

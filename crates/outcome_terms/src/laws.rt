@@ -4,7 +4,7 @@ ghost use Rattle.std.specs.Prelude.{◌≡◌, List, ℕ, [], ◌∷◌, None, S
 ghost use Rattle.shelf_terms.specs.Blobs.{Blobs};
 ghost use Rattle.outcome_terms.specs.declared.refusal.Refusal.{Refusal};
 ghost use Rattle.outcome_terms.specs.Commands.{request_of};
-ghost use Rattle.outcome_terms.specs.Request.{Accuse, Enrol, Make};
+ghost use Rattle.outcome_terms.specs.Request.{Accuse, Enrol, Make, Withdraw};
 ghost use Rattle.outcome_terms.specs.Reading.{Reading, given, ◌>>=◌ as ◌and_then◌};
 ghost use Rattle.outcome_terms.specs.Stores.{Answers, Follows, Store};
 
@@ -28,6 +28,8 @@ pub fn worked_examples()
         ≡ Some (Make 4 2 1 0 (codes "r")) }
     ensures enrol { request_of (codes "enrol" ∷ codes "r0" ∷ codes "lic0" ∷ codes "r1" ∷ [])
         ≡ Some (Enrol (codes "r0") (codes "lic0") (codes "r1")) }
+    ensures withdraw { request_of (codes "withdraw" ∷ codes "r0" ∷ codes "lic0" ∷ codes "r1" ∷ [])
+        ≡ Some (Withdraw (codes "r0") (codes "lic0") (codes "r1")) }
     ensures accuse { request_of (codes "accuse" ∷ codes "reg" ∷ codes "w" ∷ codes "3" ∷ [])
         ≡ Some (Accuse (codes "reg") (codes "w") 3) }
     ensures too_few { request_of (codes "accuse" ∷ codes "reg" ∷ codes "w" ∷ []) ≡ None }

@@ -33,12 +33,16 @@ pub enum Status {
     BadName = 17,
     /// The register takes no further licensee.
     Full = 18,
+    /// No licensee has the name.
+    Unknown = 19,
     /// The blob to be written is one that the command reads.
     SameName = 21,
     /// The blob is no word.
     BadWord = 23,
     /// The numbers make no register.
     BadParameters = 24,
+    /// The licensee is withdrawn.
+    Withdrawn = 27,
 }
 
 impl Status {

@@ -32,7 +32,7 @@ pub fn enrolled_text<S: Shelf, Q: Ledger>(
     }
     let mut register = register_under(alloc, shelf, register)?;
     enrol(&mut register, name)?;
-    Ok(register.write(alloc, looks)?)
+    Ok(register.write(looks)?)
 }
 
 /// Enrols the name.

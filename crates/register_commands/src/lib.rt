@@ -3,6 +3,8 @@
 
 mod enrol;
 mod make;
+mod withdraw;
 
 pub use enrol::enrolled_text;
 pub use make::register_text;
+pub use withdraw::withdrawn_text;

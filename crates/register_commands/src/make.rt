@@ -22,7 +22,7 @@ pub fn register_text<Q: Ledger>(
     ensures { Settles (seen (λ text. Exactly text.items) result) (make m k a b) }
 {
     match Register::new(alloc, small(m), small(k), a, b) {
-        Ok(register) => Ok(register.write(alloc, looks)?),
+        Ok(register) => Ok(register.write(looks)?),
         Err(RegisterError::BadM) => Err(broken(ParameterRule::Bits)),
         Err(RegisterError::BadK) => Err(broken(ParameterRule::Dimension)),
         Err(RegisterError::BadMultiplier) => Err(broken(ParameterRule::Multiplier)),

@@ -2,7 +2,7 @@
 
 ghost use Rattle.std.specs.Prelude.{◌≡◌, ◌*◌, ◌^◌, ◌<◌, ◌≤◌, ◌++◌, [], length, nat_le, slice_index_or, OnOk, IfOk};
 ghost use Rattle.code_terms.specs.Words.{readable, agreement_of};
-ghost use Rattle.register_terms.specs.Enrolment.{message_of};
+ghost use Rattle.register_terms.specs.Enrolment.{names_of, message_of};
 ghost use Rattle.desk_terms.specs.Findings.{findings};
 ghost use Rattle.desk_terms.specs.Scan.{accusations_at};
 
@@ -67,7 +67,7 @@ fn consider<F: Field, P: Ledger, Q: Ledger>(
     requires places { code.now.places ≡ length word.now }
     requires dimension { code.now.dimension ≡ register.now.dimension }
     requires bound { bound ≤ 8 }
-    requires serial { serial < length register.now.names }
+    requires serial { serial < length register.now.licensees }
     ensures { OnOk result (accused.new.items ≡ accused.old.items ++ accusations_at register.now word.now bound serial) }
 {
     let message = message_of(register, serial, looks);
@@ -102,7 +102,7 @@ fn meets<F: Field, P: Ledger>(
 
 /// The message of an enrolled licensee.
 fn message_of<Q: Ledger>(register: &Register, serial: u32, looks: &mut Steps<Q>) -> Message
-    requires { serial < length register.now.names }
+    requires { serial < length register.now.licensees }
     ensures value { result ≡ message_of register.now serial }
     ensures below { result < 2 ^ (register.now.bits * register.now.dimension) }
 {
@@ -116,9 +116,9 @@ fn name_of<Q: Ledger>(
     serial: u32,
     looks: &mut Steps<Q>,
 ) -> Result<Text, Memory>
-    requires { serial < length register.now.names }
-    ensures { IfOk result (λ name. name ≡ slice_index_or register.now.names serial []) }
+    requires { serial < length register.now.licensees }
+    ensures { IfOk result (λ name. name ≡ slice_index_or (names_of register.now.licensees) serial []) }
 {
     let licensee = register.entry(serial, looks).unwrap();
-    Text::of(alloc, licensee.name.as_str())
+    Text::of(alloc, licensee.name)
 }

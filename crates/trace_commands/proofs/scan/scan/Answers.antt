@@ -24,7 +24,7 @@ serials-preserved g c =
 
 pub returns : goal.returns
 returns g c =
-    let all : length c.args.register.now.names ≡ c.serials.serial = omega arith in
+    let all : length c.args.register.now.licensees ≡ c.serials.serial = omega arith in
     let list : c.over.result ≡ (findings c.args.register.now c.args.word.now c.args.bound).accused =
     c.over.ensures ∙ c.serials.invariant ∙ accused_below-all c.args.register.now c.args.word.now c.args.bound c.serials.serial all in
     findings_made c.args.register.now c.args.word.now c.args.bound c.readable.result c.over.result c.readable.ensures list
