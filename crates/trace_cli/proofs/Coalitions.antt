@@ -1,6 +1,5 @@
 -- A report that is done traces coalitions.
-use Rattle.std.proofs.Common.{◌≡◌, ℕ, ◌<◌, ◌≤◌, List, true, Option, Some, None, Result, Ok, ap, subst, arith}
-use Rattle.std.specs.Option.{IfSome}
+use Rattle.std.proofs.Common.{◌≡◌, ℕ, ◌<◌, ◌≤◌, List, true, Option, Some, Result, Ok, ap, subst, arith}
 use Rattle.std.proofs.lemmas.Bool.Decides.{nat_tests}
 use Rattle.shelf_terms.specs.Blobs.{Blobs, blob_at}
 use Rattle.code_terms.specs.Words.{readable}

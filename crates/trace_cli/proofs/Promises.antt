@@ -1,18 +1,16 @@
 -- The promise of each command, from the whole of a call.
-use Rattle.std.proofs.Common.{◌≡◌, ◌∙◌, ℕ, List, Option, Some, None, Result, Ok, Err, refl, sym, ap, subst, ◌⊎◌}
+use Rattle.std.proofs.Common.{◌≡◌, ℕ, List, Option, Some, None}
 use Rattle.std.specs.Option.{IfSome}
 use Rattle.shelf_terms.specs.Blobs.{Blobs}
 use Rattle.outcome_terms.specs.declared.status.Status.{Status}
 use Rattle.outcome_terms.specs.declared.status.Status.TheVariants as status
-use Rattle.outcome_terms.specs.declared.refusal.Refusal.{Refusal}
-use Rattle.outcome_terms.specs.declared.refusal.Refusal.TheVariants as refusal
 use Rattle.outcome_terms.specs.Request.{Request, Make, Enrol, Accuse}
 use Rattle.outcome_terms.specs.Stores.{Store}
 use Rattle.outcome_terms.specs.Commands.{deed, request_of}
 use Rattle.outcome_terms.specs.Outcome.{outcome_of, refused_by_words}
 use Rattle.outcome_terms.specs.Output.{Output}
 use Rattle.outcome_terms.specs.Call.{Ends, HasEffect, IsRefused}
-use Rattle.outcome_terms.specs.Reports.{MakesRegister, EnrolsName, TellsReport}
+use Rattle.outcome_terms.specs.Reports.{TellsReport}
 use Rattle.outcome_terms.proofs.Calls.{ends_words, ends_effect}
 use Rattle.outcome_terms.proofs.Headlines.{register_made, name_enrolled, HasReport, report_put, report_told}
 use Rattle.trace_cli.specs.Coalitions.{TracesCoalitions}

@@ -1,7 +1,6 @@
 -- Want of memory may come in place of any answer.
-use Rattle.std.proofs.Common.{◌≡◌, ℕ, List, Bool, true, Option, Some, None, refl, inr, ◌⊎◌}
+use Rattle.std.proofs.Common.{◌≡◌, ℕ, List, true, Option, Some, None, refl, inr, ◌⊎◌}
 use Rattle.std.specs.Option.{IfSome}
-use Rattle.outcome_terms.specs.declared.status.Status.{Status}
 use Rattle.outcome_terms.specs.declared.status.Status.TheVariants as status
 use Rattle.outcome_terms.specs.declared.refusal.Refusal.{Refusal}
 use Rattle.outcome_terms.specs.Statuses.{refusal_status}

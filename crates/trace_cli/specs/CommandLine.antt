@@ -1,5 +1,5 @@
 -- What the program's status says of its words, whatever the files hold. This project's own.
-use Rattle.std.specs.Prelude.{◌≡◌, ℕ, List, true, Some, None, IfSome, ◌⊎◌}
+use Rattle.std.specs.Prelude.{◌≡◌, ℕ, List, true, Some, IfSome, ◌⊎◌}
 use Rattle.std.specs.declared.io.ErrorKind.{ErrorKind}
 use Rattle.std.specs.declared.io.ErrorKind.TheVariants.{OutOfMemory}
 use Rattle.outcome_terms.specs.declared.status.Status.{Status}

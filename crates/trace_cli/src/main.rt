@@ -16,8 +16,8 @@ mod run_call;
 mod tests;
 
 use cli_words::Status;
-pub use run_call::run;
 use lists::Text;
+pub use run_call::run;
 use shelf_io::{FolderShelf, StdSink};
 use std::alloc::Global;
 use std::io::ErrorKind;
