@@ -3,8 +3,8 @@
 ghost use Rattle.std.specs.Prelude.{◌≡◌, ◌≢◌, IfOk};
 ghost use Rattle.outcome_terms.specs.Statuses.{line_of};
 
-use outcome_terms::Status;
 use lists::Memory;
+use outcome_terms::Status;
 use std::alloc::Global;
 
 /// The error line of a status: `error`, its number and the detail, with a line feed. The only error is want of memory.

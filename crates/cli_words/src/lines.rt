@@ -93,7 +93,10 @@ fn line_of_fault<'a>(fault: &'a Fault) -> Line<'a>
         Fault::SameName(name) => telling(Status::SameName, Detail::Word(name.as_str())),
         Fault::BadWord(WordFault::Token(place)) => telling(Status::BadWord, Detail::Token(*place)),
         Fault::BadWord(WordFault::Long) => telling(Status::BadWord, Detail::Word("long")),
-        Fault::BadParameters(rule) => telling(Status::BadParameters, Detail::Word(rule_name(*rule))),
+        Fault::BadParameters(rule) => telling(
+            Status::BadParameters,
+            Detail::Word(rule_name(*rule)),
+        ),
     }
 }
 

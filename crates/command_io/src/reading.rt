@@ -19,11 +19,7 @@ const BLOB_LIMIT: u64 = 67_108_864;
 
 /// The bytes of a blob that is not too long.
 #[tactic(auto, using(outcome_terms::proofs::Readings::read_follows))]
-pub fn bytes_under<S: Shelf>(
-    alloc: Global,
-    shelf: &mut S,
-    name: &str,
-) -> Result<Vec<u8>, Refusal>
+pub fn bytes_under<S: Shelf>(alloc: Global, shelf: &mut S, name: &str) -> Result<Vec<u8>, Refusal>
     requires { IsTrue (is_name name.now) }
     ensures bytes { Follows (blob name.now) (store S.holds S.counts shelf.old) (store S.holds S.counts shelf.new)
         (seen (λ bytes. bytes.items) result) }

@@ -41,12 +41,7 @@ pub fn write_text<S: Shelf>(
     }
 }
 
-fn written<S: Shelf>(
-    alloc: Global,
-    shelf: &mut S,
-    out: &str,
-    text: Vec<u8>,
-) -> Result<(), Refusal>
+fn written<S: Shelf>(alloc: Global, shelf: &mut S, out: &str, text: Vec<u8>) -> Result<(), Refusal>
     requires { IsTrue (is_name out.now) }
     ensures { Writes out.now text.items (store S.holds S.counts shelf.old) (store S.holds S.counts shelf.new) result }
 {

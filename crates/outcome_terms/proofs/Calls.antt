@@ -1,5 +1,5 @@
 -- What a call's status says, from the whole that is promised of the call.
-use Rattle.std.proofs.Common.{◌≡◌, ◌≢◌, ◌∙◌, ℕ, List, [], ◌∷◌, ◌++◌, Contains, Bool, true, false, ◌==◌, ◌||◌, Option, Some, None, Result, Ok, Err, refl, sym, ap, subst, inl, inr, ◌⊎◌}
+use Rattle.std.proofs.Common.{◌≡◌, ◌≢◌, ◌∙◌, ℕ, List, [], ◌∷◌, Contains, Bool, true, false, ◌==◌, ◌||◌, Option, Some, None, Result, Ok, Err, refl, sym, ap, subst, inl, inr, ◌⊎◌}
 use Rattle.std.specs.Option.{IfSome}
 use Rattle.std.specs.Result.{IfErr, IsOk}
 use Rattle.std.specs.List.{list_any}
@@ -21,9 +21,9 @@ use Rattle.outcome_terms.specs.EnrolCommand.{enrol, enrol_statuses}
 use Rattle.outcome_terms.specs.WithdrawCommand.{withdraw, withdraw_statuses}
 use Rattle.outcome_terms.specs.AccuseCommand.{accuse, accuse_statuses}
 use Rattle.outcome_terms.specs.Commands.{Deed, Nothing, Put, Write, deed, request_of, may_end}
-use Rattle.outcome_terms.specs.Outcome.{Effect, Puts, Wrote, outcome, outcome_of, outcome_status, is_free_status, LeavesEffect, Performs, unknown, made, not_made, wrote, stopped, lost, DeedAsks, deed_names, written_name, first_refusal, refused_by_words}
-use Rattle.outcome_terms.specs.Output.{Output, PutFailed, Delivers, PutsText, TellsAnswer}
-use Rattle.outcome_terms.specs.Call.{Ends, row_behind, row, IsRefused, may_change, OnlyWrites, SparesBlobs, TellsWhole, HasEffect, KeepsOutput, StatusCauses, GetsSoFar}
+use Rattle.outcome_terms.specs.Outcome.{Effect, Puts, Wrote, outcome, outcome_of, outcome_status, is_free_status, LeavesEffect, Performs, unknown, made, not_made, wrote, stopped, lost, DeedAsks, deed_names, written_name, refused_by_words}
+use Rattle.outcome_terms.specs.Output.{Output, PutFailed, Delivers, TellsAnswer}
+use Rattle.outcome_terms.specs.Call.{Ends, row_behind, row, IsRefused, may_change, SparesBlobs, TellsWhole, HasEffect, KeepsOutput, StatusCauses, GetsSoFar}
 use Rattle.outcome_terms.proofs.Following.{over_told}
 use Rattle.outcome_terms.proofs.Rows.{make_within, withdraw_within, enrol_within, accuse_within}
 use Rattle.outcome_terms.proofs.Performing.{Gives, Stands, performs_none_fell, performs_caused, performs_asks, performs_asked, performs_writes, performs_known, performs_gives, performs_only, performs_kept, performs_put_kept, performs_spared, performs_leaves, performs_stands, put_within, write_within, write_puts_none, keeps_blobs}
@@ -192,6 +192,7 @@ stood_row answer st rose e later h ends = by (answer_status answer st rose e h.i
     answer_status (Err f) st rose e is (inr memory) = inr memory
     answer_status (Err f) st rose e (inl is) (inl ends) = let same : f ≡ e = cc in inl (ends ∙ ap refusal_status same)
     answer_status (Err f) st rose e (inr is) (inl ends) = let same : f ≡ refusal.Memory = cc in inr (ends ∙ ap refusal_status same)
+
     by : (st ≡ refusal_status e) ⊎ (st ≡ status.Memory) → may_end (row_behind (Some e) later) st ≡ true
     by (inl is) = ap (λ s. may_end (1 ∷ status_code (refusal_status e) ∷ []) s) is ∙ one_of_two 1 (status_code (refusal_status e))
     by (inr is) = ap (λ s. may_end (1 ∷ status_code (refusal_status e) ∷ []) s) is
@@ -369,8 +370,8 @@ module _ {words : List (List ℕ)} {old new : Store} {s : Status} {before after 
   pub ends_complete : (Rose old.counts.faults new.counts.faults → ⊥) → (Rose old.counts.write_faults new.counts.write_faults → ⊥) → (PutFailed before after → ⊥)
       → IfSome old.told (λ blobs. s ≢ status.Memory → s ≡ outcome_status (outcome words blobs))
   ends_complete r w o = over_told old.told (λ blobs is memory.
-    decided_status ends.answer s (PutFailed before after) (outcome words blobs) answered (performs_gives blobs is ends.performed)
-    (calm s old.counts new.counts (PutFailed before after) ends_causes r w o memory))
+      decided_status ends.answer s (PutFailed before after) (outcome words blobs) answered (performs_gives blobs is ends.performed)
+      (calm s old.counts new.counts (PutFailed before after) ends_causes r w o memory))
 
   pub ends_blobs : SparesBlobs (deed (request_of words)) s old.told new.told
   ends_blobs = record {

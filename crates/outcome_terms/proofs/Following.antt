@@ -1,17 +1,15 @@
 -- What follows for every reading that was followed over a store.
-use Rattle.std.proofs.Common.{◌≡◌, ◌∙◌, ℕ, suc, ◌≤◌, List, ◌∷◌, Contains, Bool, true, false, Option, Some, None, Result, Ok, Err, refl, sym, ap, subst, arith, inl, inr}
+use Rattle.std.proofs.Common.{◌≡◌, ◌∙◌, ℕ, suc, List, ◌∷◌, Contains, Bool, true, Option, Some, None, Result, Err, refl, sym, ap, subst, arith}
 use Rattle.std.specs.Option.{IfSome}
-use Rattle.std.specs.Result.{IfErr}
 use Rattle.shelf_terms.specs.Blobs.{Blobs}
-use Rattle.shelf_terms.specs.Counts.{Rose, Tally}
+use Rattle.shelf_terms.specs.Counts.{Tally}
 use Rattle.shelf_terms.proofs.CausesLemmas.{rose_later}
 use Rattle.outcome_terms.specs.declared.status.Status.{Status}
 use Rattle.outcome_terms.specs.declared.status.Status.TheVariants as status
-use Rattle.outcome_terms.specs.declared.fault.Fault.{Fault}
 use Rattle.outcome_terms.specs.declared.refusal.Refusal.{Refusal}
 use Rattle.outcome_terms.specs.declared.refusal.Refusal.TheVariants as refusal
 use Rattle.outcome_terms.specs.Statuses.{refusal_status}
-use Rattle.outcome_terms.specs.Reading.{Reading, Give, Refuse, Read, Asks, now, later, AllowsReads, Within, read_blob, with_bytes, given, names_with, names_read}
+use Rattle.outcome_terms.specs.Reading.{Reading, Read, Asks, now, later, Within, read_blob, with_bytes, given, names_with, names_read}
 use Rattle.outcome_terms.specs.Stores.{Store, Answers, NoneFell, Caused, OfRead, Reads, Follows, gave, refused, went_on, failed, no_memory}
 
 -- no blob changes

@@ -1,12 +1,11 @@
 -- What a done command says, from what its reading gave.
-use Rattle.std.proofs.Common.{◌≡◌, ◌≢◌, ◌∙◌, ℕ, ◌<◌, List, [], ◌∷◌, ◌++◌, Bool, true, false, Option, Some, None, Result, Ok, Err, refl, sym, ap, subst, arith}
+use Rattle.std.proofs.Common.{◌≡◌, ◌≢◌, ◌∙◌, ℕ, ◌<◌, List, true, Option, Some, None, Result, Ok, Err, refl, sym, ap, subst, arith}
 use Rattle.std.specs.Prelude.{not, nat_lt, length}
-use Rattle.std.specs.Option.{IfSome, option_map}
 use Rattle.std.specs.Str.{bytes_eq}
 use Rattle.std.specs.FinMap.{insert}
 use Rattle.std.proofs.lemmas.Bool.Decides.{nat_tests}
 use Rattle.text_terms.specs.Names.{is_plain}
-use Rattle.shelf_terms.specs.Blobs.{Blobs, blob_at}
+use Rattle.shelf_terms.specs.Blobs.{Blobs}
 use Rattle.code_terms.specs.Words.{readable}
 use Rattle.code_terms.specs.WordText.{word_of}
 use Rattle.register_terms.specs.Enrolment.{Enrolment, names_of, capacity, serial_of}
@@ -19,17 +18,17 @@ use Rattle.outcome_terms.specs.declared.refusal.Refusal.{Refusal}
 use Rattle.outcome_terms.specs.declared.fault.Fault.{Fault}
 use Rattle.outcome_terms.specs.declared.fault.Fault.TheVariants.{Unknown, Withdrawn, BadRegister, BadBound, TooFew, NameTaken, BadName, Full, SameName, BadWord, BadParameters}
 use Rattle.outcome_terms.specs.declared.parameter_rule.ParameterRule.TheVariants.{Bits, Dimension, Multiplier, Shift}
-use Rattle.outcome_terms.specs.Reading.{found, Reading, Give, ◌>>=◌, ◌>>◌, require, blob, understood, given}
+use Rattle.outcome_terms.specs.Reading.{found, blob, understood, given}
 use Rattle.outcome_terms.specs.Stores.{Writing, Exactly, IsWriting}
 use Rattle.outcome_terms.specs.Registers.{register_under}
 use Rattle.outcome_terms.specs.RegisterCommand.{make}
 use Rattle.outcome_terms.specs.EnrolCommand.{enrolled, enrol}
 use Rattle.outcome_terms.specs.WithdrawCommand.{withdrawn, withdraw}
 use Rattle.outcome_terms.specs.AccuseCommand.{allowed, word_under, report, accuse}
-use Rattle.outcome_terms.specs.Outcome.{HasWritten, Puts, Wrote, puts, writes}
+use Rattle.outcome_terms.specs.Outcome.{HasWritten, puts, writes}
 use Rattle.outcome_terms.specs.Output.{Output}
 use Rattle.outcome_terms.specs.Call.{HasEffect, TellsWhole}
-use Rattle.outcome_terms.specs.Reports.{HoldsRegister, HoldsWord, MakesRegister, EnrolsName, WithdrawsName, IsReport, PutsReport, TellsReport}
+use Rattle.outcome_terms.specs.Reports.{HoldsRegister, HoldsWord, MakesRegister, EnrolsName, WithdrawsName, IsReport, TellsReport}
 use Rattle.outcome_terms.proofs.Givens.{took, met, not_found, was_given, was_understood, was_held}
 
 register_held : (blobs : Blobs) (name : List ℕ) (e : Enrolment) → given blobs (register_under name) ≡ Ok e → HoldsRegister blobs name e

@@ -1,5 +1,6 @@
 pub mod Readings
 pub mod Following
+pub mod Lists
 pub mod Rows
 pub mod Givens
 pub mod Performing

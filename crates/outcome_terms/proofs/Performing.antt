@@ -1,23 +1,20 @@
 -- What follows for every command that was performed over a store.
-use Rattle.std.proofs.Common.{◌≡◌, ◌≢◌, ◌∙◌, ℕ, ◌≤◌, List, Contains, Bool, true, false, cond, Option, Some, None, Result, Ok, Err, refl, sym, ap, subst, arith, ◌⊎◌, inl, inr}
-use Rattle.std.specs.Option.{IfSome}
-use Rattle.std.specs.Result.{IfErr, IsOk, IsErr}
+use Rattle.std.proofs.Common.{◌≡◌, ◌∙◌, ℕ, List, Contains, Bool, true, false, cond, Option, Some, None, Result, Ok, Err, refl, sym, ap, subst, ◌⊎◌, inl, inr}
+use Rattle.std.specs.Result.{IsOk, IsErr}
 use Rattle.std.specs.FinMap.{insert, get-insert}
 use Rattle.std.proofs.lemmas.Cmp.{nat_list_cmp_total}
 use Rattle.std.proofs.lemmas.Map.Text.{is_eq-slice_cmp}
 use Rattle.register_terms.proofs.Serials.{bytes_differ}
 use Rattle.shelf_terms.specs.Blobs.{Blobs, blob_at, SameBut}
-use Rattle.shelf_terms.specs.Counts.{Rose, Tally}
 use Rattle.outcome_terms.specs.declared.status.Status.{Status}
 use Rattle.outcome_terms.specs.declared.status.Status.TheVariants as status
-use Rattle.outcome_terms.specs.declared.fault.Fault.{Fault}
 use Rattle.outcome_terms.specs.declared.refusal.Refusal.{Refusal}
 use Rattle.outcome_terms.specs.declared.refusal.Refusal.TheVariants as refusal
 use Rattle.outcome_terms.specs.Statuses.{refusal_status}
-use Rattle.outcome_terms.specs.Reading.{Reading, Give, Refuse, Read, Asks, Within, given, names_read}
-use Rattle.outcome_terms.specs.Stores.{Store, Answers, NoneFell, Caused, OfWrite, Follows, gave, refused, went_on, failed, no_memory, Writing, IsWriting, Writes, Holds, OnlyChanges}
+use Rattle.outcome_terms.specs.Reading.{Reading, Within, given}
+use Rattle.outcome_terms.specs.Stores.{Store, NoneFell, Caused, OfWrite, Follows, gave, refused, went_on, failed, no_memory, Writing, Holds, OnlyChanges}
 use Rattle.outcome_terms.specs.Commands.{Deed, Nothing, Put, Write}
-use Rattle.outcome_terms.specs.Outcome.{Effect, Puts, Wrote, puts, writes, outcome_of, deed_names, HasWritten, LeavesEffect, Performs, unknown, made, not_made, wrote, stopped, lost, DeedAsks, written_name, first_refusal, refused_by_words}
+use Rattle.outcome_terms.specs.Outcome.{Effect, Puts, Wrote, puts, writes, outcome_of, deed_names, LeavesEffect, Performs, unknown, made, not_made, wrote, stopped, lost, DeedAsks, written_name, first_refusal, refused_by_words}
 use Rattle.outcome_terms.specs.Call.{OnlyWrites}
 use Rattle.outcome_terms.proofs.Following.{kept, none_falls, none_fell_then, none_fell, caused_later, caused, decided, asks, asked, never_writes, never_bad_words, within}
 
@@ -70,7 +67,6 @@ Gives (Err refusal.Memory) wanted = Unit {0}
 Gives (Err (refusal.ReadFault name)) wanted = Unit {0}
 Gives (Err (refusal.WriteFault name)) wanted = IsOk wanted
 Gives (Err e) wanted = wanted ≡ Err e
-
 
 ok_is : {A : Type 0} (wanted : Result A Refusal) (x : A) → wanted ≡ Ok x → IsOk wanted
 ok_is wanted x is = subst IsOk (sym is) refl

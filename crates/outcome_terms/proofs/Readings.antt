@@ -1,11 +1,11 @@
 -- How readings are followed, one after the other.
-use Rattle.std.proofs.Common.{◌≡◌, ℕ, List, Bool, true, Option, Some, None, Result, Ok, Err, refl, sym, subst}
+use Rattle.std.proofs.Common.{◌≡◌, ℕ, List, Bool, true, Option, Some, None, Result, Ok, Err, sym, subst}
 use Rattle.outcome_terms.specs.declared.fault.Fault.{Fault}
 use Rattle.outcome_terms.specs.declared.refusal.Refusal.{Refusal}
 use Rattle.outcome_terms.specs.declared.refusal.Refusal.TheVariants as refusal
-use Rattle.outcome_terms.specs.Reading.{Reading, Give, Refuse, Read, ◌>>=◌, ◌>>◌, require, blob}
+use Rattle.outcome_terms.specs.Reading.{Reading, Give, ◌>>=◌, ◌>>◌, require, blob}
 use Rattle.outcome_terms.specs.Stores.{Store, Settles, Reads, Follows, gave, refused, went_on, failed, no_memory, Writing, IsWriting, Writes}
-use Rattle.outcome_terms.specs.Commands.{Deed, Nothing, Put, Write}
+use Rattle.outcome_terms.specs.Commands.{Put, Write}
 use Rattle.outcome_terms.specs.Outcome.{Performs, unknown, made, not_made, wrote, stopped, lost}
 
 -- a reading that gave a value, and then the next

@@ -1,5 +1,5 @@
 -- With which statuses the readings of the commands can refuse.
-use Rattle.std.proofs.Common.{◌≡◌, ℕ, List, ◌∷◌, Bool, true, false, Option, Some, None, Result, Ok, Err, refl, sym, ap, ◌∙◌, subst}
+use Rattle.std.proofs.Common.{◌≡◌, ℕ, List, Bool, true, false, Option, Some, None, Result, Ok, Err, refl}
 use Rattle.std.specs.Prelude.{not, nat_lt, length}
 use Rattle.std.specs.Option.{option_map}
 use Rattle.std.specs.Str.{bytes_eq}
@@ -8,18 +8,15 @@ use Rattle.code_terms.specs.declared.word_fault.WordFault.{WordFault}
 use Rattle.code_terms.specs.Words.{readable}
 use Rattle.code_terms.specs.WordText.{word_of}
 use Rattle.register_terms.specs.Enrolment.{Enrolment, names_of, capacity, serial_of}
-use Rattle.register_terms.specs.Rules.{empty_register, with_name, is_active, are_bits, is_dimension, is_multiplier, is_shift}
-use Rattle.register_terms.specs.RegisterText.{RegisterFault, register_of, register_text}
-use Rattle.desk_terms.specs.Findings.{findings, is_allowed_bound, not_enough}
-use Rattle.desk_terms.specs.Report.{report_text}
+use Rattle.register_terms.specs.Rules.{is_active, are_bits, is_dimension, is_multiplier, is_shift}
+use Rattle.register_terms.specs.RegisterText.{RegisterFault, register_of}
+use Rattle.desk_terms.specs.Findings.{is_allowed_bound, not_enough}
 use Rattle.outcome_terms.specs.declared.status.Status.{Status}
 use Rattle.outcome_terms.specs.declared.fault.Fault.{Fault}
 use Rattle.outcome_terms.specs.declared.fault.Fault.TheVariants.{Unknown, Withdrawn, BadRegister, BadBound, TooFew, NameTaken, BadName, Full, SameName, BadWord, BadParameters}
 use Rattle.outcome_terms.specs.declared.parameter_rule.ParameterRule.TheVariants.{Bits, Dimension, Multiplier, Shift}
-use Rattle.outcome_terms.specs.declared.refusal.Refusal.{Refusal}
 use Rattle.outcome_terms.specs.Statuses.{fault_line}
 use Rattle.outcome_terms.specs.Reading.{Reading, Give, Refuse, Read, ◌>>=◌, ◌>>◌, require, found, blob, understood, AllowsReads, Within}
-use Rattle.outcome_terms.specs.Stores.{Writing, Exactly}
 use Rattle.outcome_terms.specs.Registers.{register_under}
 use Rattle.outcome_terms.specs.RegisterCommand.{make, make_statuses}
 use Rattle.outcome_terms.specs.EnrolCommand.{enrolled, enrol, enrol_statuses}

@@ -1,5 +1,5 @@
 -- What is promised of a whole call: the whole, and what follows from it. This project's own.
-use Rattle.std.specs.Prelude.{◌≡◌, ◌≢◌, ℕ, ◌≤◌, List, [], ◌∷◌, ◌++◌, Contains, Bool, true, false, Option, Some, None, Result, Ok, Err, IfSome, ⊤, ◌⊎◌}
+use Rattle.std.specs.Prelude.{◌≡◌, ◌≢◌, ℕ, List, [], ◌∷◌, ◌++◌, Contains, Bool, true, false, Option, Some, None, Result, Ok, Err, IfSome, ⊤, ◌⊎◌}
 use Rattle.std.specs.Result.{IsOk, IsErr}
 use Rattle.shelf_terms.specs.Blobs.{Blobs}
 use Rattle.shelf_terms.specs.Counts.{Rose, Tally}
@@ -7,11 +7,11 @@ use Rattle.outcome_terms.specs.declared.status.Status.{Status}
 use Rattle.outcome_terms.specs.declared.status.Status.TheVariants as status
 use Rattle.outcome_terms.specs.declared.refusal.Refusal.{Refusal}
 use Rattle.outcome_terms.specs.Statuses.{status_code, refusal_status}
-use Rattle.outcome_terms.specs.Request.{Request, Make, Enrol, Accuse}
-use Rattle.outcome_terms.specs.Stores.{Store, NoneFell, OnlyChanges, Writing}
-use Rattle.outcome_terms.specs.Commands.{Deed, deed, request_of, may_end, later_statuses}
+use Rattle.outcome_terms.specs.Request.{Request}
+use Rattle.outcome_terms.specs.Stores.{Store, NoneFell, OnlyChanges}
+use Rattle.outcome_terms.specs.Commands.{Deed, deed, request_of, later_statuses}
 use Rattle.outcome_terms.specs.Outcome.{Effect, Puts, Wrote, HasWritten, Performs, DeedAsks, written_name, deed_names, refused_by_words, outcome_of}
-use Rattle.outcome_terms.specs.Output.{Output, PutFailed, Delivers}
+use Rattle.outcome_terms.specs.Output.{Output, Delivers}
 
 -- The whole: the answer that the command had, and how it was delivered.
 pub record Ends (words : List (List ℕ)) (old new : Store) (s : Status) (before after : Output) : Type 0 where

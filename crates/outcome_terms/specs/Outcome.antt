@@ -1,5 +1,5 @@
 -- What a command does and what that leaves, over a map of blobs and over any store. This project's own.
-use Rattle.std.specs.Prelude.{◌≡◌, ℕ, List, [], Bool, true, false, Option, Some, None, Result, Ok, Err, IfSome, ⊤}
+use Rattle.std.specs.Prelude.{◌≡◌, ℕ, List, [], Bool, true, false, Option, Some, None, Result, Ok, Err}
 use Rattle.std.specs.FinMap.{insert}
 use Rattle.shelf_terms.specs.Blobs.{Blobs}
 use Rattle.outcome_terms.specs.declared.status.Status.{Status}

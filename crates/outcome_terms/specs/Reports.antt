@@ -1,5 +1,5 @@
 -- What a done command says, from the bytes read to the bytes written or put out. This project's own.
-use Rattle.std.specs.Prelude.{◌≡◌, ◌≢◌, ℕ, ◌<◌, List, [], ◌++◌, length, true, Option, Some, None, Ok, ⊤}
+use Rattle.std.specs.Prelude.{◌≡◌, ◌≢◌, ℕ, ◌<◌, List, ◌++◌, length, true, Option, Some, None, Ok, ⊤}
 use Rattle.std.specs.FinMap.{insert}
 use Rattle.text_terms.specs.Names.{is_plain}
 use Rattle.shelf_terms.specs.Blobs.{Blobs, blob_at}

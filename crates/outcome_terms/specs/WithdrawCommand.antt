@@ -4,11 +4,10 @@ use Rattle.std.specs.Str.{bytes_eq}
 use Rattle.register_terms.specs.Enrolment.{Enrolment, names_of, serial_of}
 use Rattle.register_terms.specs.Rules.{is_active, with_withdrawn}
 use Rattle.register_terms.specs.RegisterText.{register_text}
-use Rattle.outcome_terms.specs.declared.fault.Fault.{Fault}
 use Rattle.outcome_terms.specs.declared.fault.Fault.TheVariants.{Unknown, Withdrawn, SameName}
 use Rattle.outcome_terms.specs.Request.{Request, Withdraw}
 use Rattle.outcome_terms.specs.Words.{◌>>?◌, named}
-use Rattle.outcome_terms.specs.Reading.{Reading, Give, Refuse, ◌>>=◌, ◌>>◌, require, found}
+use Rattle.outcome_terms.specs.Reading.{Reading, Give, ◌>>=◌, ◌>>◌, require, found}
 use Rattle.outcome_terms.specs.Stores.{Writing, Exactly}
 use Rattle.outcome_terms.specs.Registers.{register_under}
 

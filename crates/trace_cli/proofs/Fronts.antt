@@ -7,7 +7,7 @@ use Rattle.shelf_io.specs.Puts.{PutGives}
 use Rattle.outcome_terms.specs.declared.status.Status.TheVariants as status
 use Rattle.outcome_terms.specs.declared.refusal.Refusal.{Refusal}
 use Rattle.outcome_terms.specs.Statuses.{refusal_status, error_text}
-use Rattle.outcome_terms.specs.Endings.{TellsOut, TellsFront, memory_line}
+use Rattle.outcome_terms.specs.Output.{TellsAnswer, TellsRefusal, TellsFront, memory_line}
 
 -- all of a text is a front of it
 pub puts_whole : (old new text : List ℕ) → new ≡ old ++ text → Puts old new text
@@ -23,20 +23,20 @@ front_told None (Some new) bytes text r same h = tt
 
 -- ---- an answer
 
-module _ (text : List ℕ) (rose : Type 0) where
-  pub answer_done : (old new : Option (List ℕ)) (done : Unit {0}) → PutGives old new text (Ok done) → TellsOut (Ok text) status.Ok rose old new
+module _ (text : List ℕ) where
+  pub answer_done : (old new : Option (List ℕ)) (done : Unit {0}) → PutGives old new text (Ok done) → TellsAnswer status.Ok text old new
   answer_done (Some old) (Some new) done h = record { whole = λ _. h; fault = λ e. cc; memory = λ e. cc }
   answer_done None None done h = tt
   answer_done (Some old) None done h = h
   answer_done None (Some new) done h = tt
 
-  pub answer_fault : (old new : Option (List ℕ)) (e : SinkError) → PutGives old new text (Err e) → TellsOut (Ok text) status.OutFault rose old new
+  pub answer_fault : (old new : Option (List ℕ)) (e : SinkError) → PutGives old new text (Err e) → TellsAnswer status.OutFault text old new
   answer_fault (Some old) (Some new) e h = record { whole = λ e. cc; fault = λ _. h; memory = λ e. cc }
   answer_fault None None e h = tt
   answer_fault (Some old) None e h = h
   answer_fault None (Some new) e h = tt
 
-  pub answer_memory : (old between new : Option (List ℕ)) (e : SinkError) → PutGives old between text (Err e) → TellsFront memory_line between new → TellsOut (Ok text) status.Memory rose old new
+  pub answer_memory : (old between new : Option (List ℕ)) (e : SinkError) → PutGives old between text (Err e) → TellsFront memory_line between new → TellsAnswer status.Memory text old new
   answer_memory (Some old) (Some between) (Some new) e h g =
       record { whole = λ e. cc; fault = λ e. cc; memory = λ _. record { between = between; first_put = h; second_put = g } }
   answer_memory None None new e h g = tt
@@ -47,7 +47,7 @@ module _ (text : List ℕ) (rose : Type 0) where
 -- ---- the error line of a refusal
 
 module _ (e : Refusal) (rose : Type 0) where
-  pub line_done : (old new : Option (List ℕ)) (line : List ℕ) (done : Unit {0}) → line ≡ error_text e → PutGives old new line (Ok done) → TellsOut (Err e) (refusal_status e) rose old new
+  pub line_done : (old new : Option (List ℕ)) (line : List ℕ) (done : Unit {0}) → line ≡ error_text e → PutGives old new line (Ok done) → TellsRefusal (refusal_status e) e rose old new
   line_done (Some old) (Some new) line done same h =
       let all : new ≡ old ++ error_text e = h ∙ ap (λ t. old ++ t) same in
       record { front = λ _. puts_whole old new (error_text e) all; whole = λ _ _. all; memory = λ _. inl (puts_whole old new (error_text e) all) }
@@ -55,7 +55,7 @@ module _ (e : Refusal) (rose : Type 0) where
   line_done (Some old) None line done same h = h
   line_done None (Some new) line done same h = tt
 
-  pub line_fault : (old new : Option (List ℕ)) (line : List ℕ) (f : SinkError) → line ≡ error_text e → rose → PutGives old new line (Err f) → TellsOut (Err e) (refusal_status e) rose old new
+  pub line_fault : (old new : Option (List ℕ)) (line : List ℕ) (f : SinkError) → line ≡ error_text e → rose → PutGives old new line (Err f) → TellsRefusal (refusal_status e) e rose old new
   line_fault (Some old) (Some new) line f same up h =
       let front : Puts old new (error_text e) = subst (λ t. Puts old new t) same h in
       record { front = λ _. front; whole = λ _ calm. absurd (calm up); memory = λ _. inl front }
@@ -63,7 +63,7 @@ module _ (e : Refusal) (rose : Type 0) where
   line_fault (Some old) None line f same up h = h
   line_fault None (Some new) line f same up h = tt
 
-  pub line_memory : (old new : Option (List ℕ)) (line : List ℕ) (f : SinkError) → line ≡ error_text e → PutGives old new line (Err f) → TellsOut (Err e) status.Memory rose old new
+  pub line_memory : (old new : Option (List ℕ)) (line : List ℕ) (f : SinkError) → line ≡ error_text e → PutGives old new line (Err f) → TellsRefusal status.Memory e rose old new
   line_memory (Some old) (Some new) line f same h =
       let front : Puts old new (error_text e) = subst (λ t. Puts old new t) same h in
       record { front = λ not. absurd (not refl); whole = λ not _. absurd (not refl); memory = λ _. inl front }
@@ -72,7 +72,7 @@ module _ (e : Refusal) (rose : Type 0) where
   line_memory None (Some new) line f same h = tt
 
   -- no line could be made
-  pub no_line : (old new : Option (List ℕ)) → TellsFront memory_line old new → TellsOut (Err e) status.Memory rose old new
+  pub no_line : (old new : Option (List ℕ)) → TellsFront memory_line old new → TellsRefusal status.Memory e rose old new
   no_line (Some old) (Some new) h = record { front = λ not. absurd (not refl); whole = λ not _. absurd (not refl); memory = λ _. inr h }
   no_line None new h = tt
   no_line (Some old) None h = h

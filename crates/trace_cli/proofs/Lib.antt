@@ -1,4 +1,4 @@
 pub mod Fronts
-pub mod Codes
 pub mod Coalitions
-pub mod FailureNames
+pub mod Promises
+pub mod WantOfMemory

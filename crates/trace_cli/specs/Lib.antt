@@ -1,4 +1,3 @@
-pub mod Answers
 pub mod Coalitions
-pub mod Failures
+pub mod Headline
 pub mod CommandLine

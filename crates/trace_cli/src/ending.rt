@@ -1,12 +1,13 @@
 //! How a call ends: the answer or the error line is put out, and the status says which.
 
-ghost use Rattle.std.specs.Prelude.{◌≡◌, ◌≤◌};
+ghost use Rattle.std.specs.Prelude.{◌≡◌, ◌⊎◌};
 ghost use Rattle.shelf_terms.specs.Counts.{Rose};
-ghost use Rattle.outcome_terms.specs.Endings.{Follows, TellsOut, TellsFront, memory_line};
-ghost use Rattle.trace_cli.specs.Answers.{text_left};
+ghost use Rattle.outcome_terms.specs.Statuses.{refusal_status};
+ghost use Rattle.outcome_terms.specs.Output.{Delivers, TellsAnswer, TellsFront, TellsRefusal, memory_line, output};
+ghost use Rattle.command_io.specs.Answers.{left_text};
 
-use crate::refusal_line::{refusal_line, status_of};
-use cli_words::Status;
+use cli_words::{Status, refusal_line, refusal_status};
+use command_io::Done;
 use outcome_terms::Refusal;
 use shelf_io::{Sink, SinkError};
 use std::alloc::Global;
@@ -14,30 +15,22 @@ use std::alloc::Global;
 /// The error line for want of memory, which takes none.
 const MEMORY_LINE: &[u8] = b"error 1 memory\n";
 
-/// What a command that was not refused leaves to be put out.
-#[derive(Debug, Drop)]
-pub enum Done {
-    /// Nothing: it wrote a blob.
-    Written,
-    /// A report.
-    Report(Vec<u8>),
-}
-
-/// Puts out what a command left to be put out.
-pub fn put_done<O: Sink>(done: Done, out: &mut O) -> Status
-    ensures follows { Follows (Ok (text_left done)) result (Rose (O.faults out.old) (O.faults out.new)) }
-    ensures out { TellsOut (Ok (text_left done)) result (Rose (O.faults out.old) (O.faults out.new)) (O.written out.old) (O.written out.new) }
+/// Puts out what a command left to be put out, or its error line.
+pub fn put_out<O: Sink>(alloc: Global, answer: Result<Done, Refusal>, out: &mut O) -> Status
+    ensures { Delivers (left_text answer) result (output O.written O.faults out.old) (output O.written O.faults out.new) }
 {
-    match done {
-        Done::Written => Status::Ok,
-        Done::Report(text) => put_answer(text.as_slice(), out),
+    match answer {
+        Ok(Done::Written) => Status::Ok,
+        Ok(Done::Text(text)) => put_text(text.as_slice(), out),
+        Err(refusal) => put_refusal(alloc, &refusal, out),
     }
 }
 
-/// Puts out the answer of a command.
-fn put_answer<O: Sink>(text: &[u8], out: &mut O) -> Status
-    ensures follows { Follows (Ok text.now) result (Rose (O.faults out.old) (O.faults out.new)) }
-    ensures out { TellsOut (Ok text.now) result (Rose (O.faults out.old) (O.faults out.new)) (O.written out.old) (O.written out.new) }
+/// Puts out the text that a command made.
+fn put_text<O: Sink>(text: &[u8], out: &mut O) -> Status
+    ensures ends { (result ≡ Status.Ok)
+        ⊎ (((result ≡ Status.OutFault) × Rose (O.faults out.old) (O.faults out.new)) ⊎ (result ≡ Status.Memory)) }
+    ensures out { TellsAnswer result text.now (O.written out.old) (O.written out.new) }
 {
     match out.put(text) {
         Ok(()) => Status::Ok,
@@ -47,20 +40,21 @@ fn put_answer<O: Sink>(text: &[u8], out: &mut O) -> Status
 }
 
 /// Puts out the error line of a refusal.
-pub fn put_refusal<O: Sink>(alloc: Global, refusal: &Refusal, out: &mut O) -> Status
-    ensures follows { Follows (Err refusal.now) result (Rose (O.faults out.old) (O.faults out.new)) }
-    ensures out { TellsOut (Err refusal.now) result (Rose (O.faults out.old) (O.faults out.new)) (O.written out.old) (O.written out.new) }
+fn put_refusal<O: Sink>(alloc: Global, refusal: &Refusal, out: &mut O) -> Status
+    ensures ends { (result ≡ refusal_status refusal.now) ⊎ (result ≡ Status.Memory) }
+    ensures out { TellsRefusal result refusal.now (Rose (O.faults out.old) (O.faults out.new)) (O.written out.old) (O.written out.new) }
 {
     let Ok(line) = refusal_line(alloc, refusal) else {
         return put_memory_line(out);
     };
     match out.put(line.as_slice()) {
-        Ok(()) => status_of(refusal),
-        Err(SinkError::Fault) => status_of(refusal),
+        Ok(()) => refusal_status(refusal),
+        Err(SinkError::Fault) => refusal_status(refusal),
         Err(SinkError::Memory) => Status::Memory,
     }
 }
 
+/// Puts out the error line for want of memory.
 fn put_memory_line<O: Sink>(out: &mut O) -> Status
     ensures status { result ≡ Status.Memory }
     ensures out { TellsFront memory_line (O.written out.old) (O.written out.new) }

@@ -10,21 +10,14 @@ ghost use Rattle.std.specs.Vec.Iter.{into_iter_items};
 ghost use Rattle.std.specs.IoError.{error_kind};
 ghost use Rattle.trace_cli.specs.CommandLine.{AnswersWords, argument_status};
 
-mod accuse;
 mod ending;
-mod reading;
-mod refusal_line;
-mod report;
 mod run_call;
-mod scan;
 #[cfg(test)]
 mod tests;
-mod valid;
-mod writing;
 
 use cli_words::Status;
-pub use run_call::run;
 use lists::Text;
+pub use run_call::run;
 use shelf_io::{FolderShelf, StdSink};
 use std::alloc::Global;
 use std::io::ErrorKind;

@@ -3,9 +3,9 @@
 use super::calls::{call, register};
 use lists::Memory;
 use shelf_io::{MemShelf, Shelf};
-use texts::is_name;
 use std::alloc::Global;
 use std::test::Fail;
+use texts::is_name;
 
 /// One call after another on one shelf, and what each puts out.
 const CALLS: [(&str, &str); 14] = [

@@ -1,0 +1,22 @@
+use Rattle.std.proofs.Common.{◌≡◌, ◌∙◌, Option, Some, Ok, map, refl, sym, ap, subst}
+use Rattle.std.specs.String.{string_bytes}
+use Rattle.cli_words.specs.Requests.{request}
+use Rattle.outcome_terms.specs.Request.{Request, Make}
+use Rattle.outcome_terms.specs.RegisterCommand.{make}
+use Rattle.outcome_terms.specs.Stores.{Exactly, store}
+use Rattle.outcome_terms.specs.Commands.{deed, request_of}
+use Rattle.outcome_terms.specs.Outcome.{Performs}
+use Rattle.outcome_terms.proofs.Readings.{settled}
+use Rattle.command_io.specs.Answers.{left_text}
+use Rattle.trace_cli.proofs.run_call.perform.Goals as goal
+
+pub returns-in_ok-text-in-Register : goal.returns-in_ok-text-in-Register
+returns-in_ok-text-in-Register g c =
+    let old = store g.S.Shelf.holds g.S.Shelf.counts c.args.shelf.now in
+    let new = store g.S.Shelf.holds g.S.Shelf.counts c.write_text.new.shelf in
+    let asked : Some (Make c.in-Register.m c.in-Register.k c.in-Register.a c.in-Register.b c.in-Register.out.now) ≡ request_of (map string_bytes c.args.words.now) =
+    ap (λ command. Some (request command)) (sym c.in-Register.is) ∙ c.in-Some.ensures.asked in
+    let reading = make c.in-Register.m c.in-Register.k c.in-Register.a c.in-Register.b in
+    let text = c.in_ok-text-in-Register.text.items in
+    subst (λ (asked : Option Request). Performs (deed asked) old new (left_text c.write_text.result)) asked
+    (c.write_text.ensures reading (Exactly text) old (settled reading old (Ok (Exactly text)) c.in_ok-text-in-Register.ensures) refl)
