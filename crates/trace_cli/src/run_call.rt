@@ -15,7 +15,7 @@ use crate::ending::put_out;
 use cli_words::{Command, Status, read_words};
 use command_io::{Done, write_text};
 use outcome_terms::Refusal;
-use register_commands::{enrolled_text, register_text};
+use register_commands::{enrolled_text, register_text, withdrawn_text};
 use shelf_io::{Shelf, Sink};
 use std::alloc::Global;
 use steps::{Ledger, Steps};
@@ -106,6 +106,10 @@ fn perform<S: Shelf, P: Ledger, Q: Ledger>(
         }
         Command::Enrol { reg, name, out } => {
             let text = enrolled_text(alloc, shelf, reg, name, out, looks)?;
+            write_text(alloc, shelf, out, text)
+        }
+        Command::Withdraw { reg, name, out } => {
+            let text = withdrawn_text(alloc, shelf, reg, name, out, looks)?;
             write_text(alloc, shelf, out, text)
         }
         Command::Accuse { reg, word, c } => {

@@ -1,4 +1,4 @@
-//! `register` and `enrol`.
+//! `register`, `enrol` and `withdraw`.
 
 use super::calls::{call, register};
 use lists::Memory;
@@ -8,7 +8,7 @@ use std::test::Fail;
 use texts::is_name;
 
 /// One call after another on one shelf, and what each puts out.
-const CALLS: [(&str, &str); 14] = [
+const CALLS: [(&str, &str); 24] = [
     ("register 4 2 1 0 r0", "0: "),
     ("enrol r0 lic0 r1", "0: "),
     ("enrol r1 lic0 r2", "16: error 16 0\n"),
@@ -23,15 +23,37 @@ const CALLS: [(&str, &str); 14] = [
     ("register 4 2 1 r9", "2: error 2 words\n"),
     ("enrol full lic256 r4", "18: error 18 256\n"),
     ("enrol cut lic r4", "11: error 11 4 header\n"),
+    ("withdraw r1 lic0 r5", "0: "),
+    ("withdraw r5 lic0 r6", "27: error 27 lic0\n"),
+    ("enrol r5 lic0 r6", "16: error 16 0\n"),
+    ("withdraw r5 nobody r6", "19: error 19 nobody\n"),
+    ("withdraw r5 a/b r6", "19: error 19 a/b\n"),
+    ("withdraw r5 lic0 r5", "21: error 21 r5\n"),
+    ("withdraw r8 lic0 r6", "3: error 3 r8\n"),
+    ("withdraw stateless lic0 r6", "11: error 11 6 bad-status\n"),
+    (
+        "accuse r5 w 1",
+        "0: {\"accused\":[{\"name\":\"lic0\",\"places\":[0,1],\"serial\":0}],\"bound\":1,\"readable\":2}\n",
+    ),
+    ("withdraw five lic3 r7", "0: "),
 ];
 
 /// What the blobs are after these calls; the others are not there.
-const BLOBS: [(&str, &str); 6] = [
-    ("r0", "held: register 1\nm 4\nk 2\na 1\nb 0\n"),
-    ("r1", "held: register 1\nm 4\nk 2\na 1\nb 0\nlic0\n"),
+const BLOBS: [(&str, &str); 9] = [
+    ("r0", "held: register 2\nm 4\nk 2\na 1\nb 0\n"),
+    ("r1", "held: register 2\nm 4\nk 2\na 1\nb 0\nactive lic0\n"),
     ("r2", "not there"),
     ("r3", "not there"),
     ("r4", "not there"),
+    (
+        "r5",
+        "held: register 2\nm 4\nk 2\na 1\nb 0\nwithdrawn lic0\n",
+    ),
+    ("r6", "not there"),
+    (
+        "r7",
+        "held: register 2\nm 4\nk 2\na 1\nb 0\nactive lic0\nactive lic1\nactive lic2\nwithdrawn lic3\nactive lic4\n",
+    ),
     ("r9", "not there"),
 ];
 
@@ -47,11 +69,15 @@ fn held(alloc: Global, shelf: &mut MemShelf, name: &str) -> Result<String, Memor
     Ok(format!(in alloc; "held: {text}")?)
 }
 
-/// A shelf with a register that is full and one that is cut.
+/// A shelf with a register that is full, one that is cut, one whose licensee has no state, one of the older text with five
+/// licensees, and a word.
 fn full_and_cut(alloc: Global) -> Result<MemShelf, Memory> {
     let mut shelf = MemShelf::new(alloc);
     shelf.hold("full", register(alloc, 4, 2, 256)?.as_bytes())?;
     shelf.hold("cut", b"register 1\nm 4\nk 2\n")?;
+    shelf.hold("stateless", b"register 2\nm 4\nk 2\na 1\nb 0\nlic0\n")?;
+    shelf.hold("five", register(alloc, 4, 2, 5)?.as_bytes())?;
+    shelf.hold("w", b"0,0\n")?;
     Ok(shelf)
 }
 
