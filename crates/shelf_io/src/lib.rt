@@ -19,7 +19,6 @@ mod whole;
 
 pub use errors::{FetchError, ShelfError, SinkError};
 pub use folder_shelf::FolderShelf;
-
 pub use mem_shelf::MemShelf;
 pub use mem_sink::MemSink;
 pub use shelf::Shelf;

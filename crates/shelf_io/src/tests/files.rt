@@ -2,13 +2,13 @@
 
 use crate::{FolderShelf, Shelf, ShelfError, Sink, SinkError, StdSink};
 use lists::Text;
-use texts::is_name;
 use std::alloc::Global;
 use std::fs::Permissions;
 use std::io::Write;
 use std::os::unix::fs::PermissionsExt;
 use std::test::Fail;
 use std::{fs, io};
+use texts::is_name;
 
 /// Why a read is refused, if it is.
 fn read_refusal<S: Shelf>(alloc: Global, shelf: &mut S, name: &str) -> Option<ShelfError> {

@@ -1,9 +1,9 @@
 //! The store and the output in memory, and reading a whole blob.
 
 use crate::{FetchError, MemShelf, MemSink, Shelf, ShelfError, Sink, SinkError, fetch};
-use texts::is_name;
 use std::alloc::Global;
 use std::test::Fail;
+use texts::is_name;
 
 /// Why a fetch is refused, if it is.
 fn refusal(alloc: Global, shelf: &mut MemShelf, name: &str, limit: u32) -> Option<FetchError> {
