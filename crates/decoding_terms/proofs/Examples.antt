@@ -1,0 +1,16 @@
+-- Least numbers where one more never hurts: the one before does not do.
+use Rattle.std.proofs.Common.{◌≡◌, ◌⊎◌, inl, inr, ℕ, suc, ◌+◌, ◌-◌, ◌*◌, ◌/◌, ◌<◌, ◌≤◌, ◌==◌, Bool, true, false, nat_lt, refl, ap, subst, arith}
+use Rattle.std.proofs.lemmas.Bool.{cases_lt}
+use Rattle.decoding_terms.specs.Least.{IsLeast}
+use Rattle.decoding_terms.specs.Parameters.{AreParameters, IsAgreement, IsMultiplicity, IsWeight, equation_count, term_count}
+use Rattle.decoding_terms.proofs.Terms.{term_count-rises}
+
+pub least_weight : (w equations n : ℕ) → 1 ≤ w → equations < term_count w (suc n) → term_count w n ≤ equations → IsWeight w equations (suc n)
+least_weight w equations n some does before = record { holds = does; none_below = none }
+  where
+    none : (k : ℕ) → k < suc n → ¬ (equations < term_count w k)
+    none k less h =
+        let whole : k + (n - k) ≡ n = omega (arith, less) in
+        let rises = term_count-rises w k some (n - k) in
+        let same : term_count w (k + (n - k)) ≡ term_count w n = ap (term_count w) whole in
+        omega (arith, h, before, rises, same)
