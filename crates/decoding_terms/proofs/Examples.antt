@@ -1,8 +1,6 @@
 -- Least numbers where one more never hurts: the one before does not do.
-use Rattle.std.proofs.Common.{◌≡◌, ◌⊎◌, inl, inr, ℕ, suc, ◌+◌, ◌-◌, ◌*◌, ◌/◌, ◌<◌, ◌≤◌, ◌==◌, Bool, true, false, nat_lt, refl, ap, subst, arith}
-use Rattle.std.proofs.lemmas.Bool.{cases_lt}
-use Rattle.decoding_terms.specs.Least.{IsLeast}
-use Rattle.decoding_terms.specs.Parameters.{AreParameters, IsAgreement, IsMultiplicity, IsWeight, equation_count, term_count}
+use Rattle.std.proofs.Common.{◌≡◌, ℕ, suc, ◌+◌, ◌-◌, ◌<◌, ◌≤◌, ap, arith}
+use Rattle.decoding_terms.specs.Parameters.{IsWeight, term_count}
 use Rattle.decoding_terms.proofs.Terms.{term_count-rises}
 
 pub least_weight : (w equations n : ℕ) → 1 ≤ w → equations < term_count w (suc n) → term_count w n ≤ equations → IsWeight w equations (suc n)

@@ -1,5 +1,5 @@
 -- Where there are enough points, each parameter is the least of numbers of which some do.
-use Rattle.std.proofs.Common.{◌≡◌, ◌⊎◌, inl, inr, ℕ, suc, ◌+◌, ◌-◌, ◌*◌, ◌<◌, ◌≤◌, arith}
+use Rattle.std.proofs.Common.{◌⊎◌, inl, inr, ℕ, ◌-◌, ◌*◌, ◌<◌, ◌≤◌, arith}
 use Rattle.std.proofs.lemmas.Bool.{cases_lt}
 use Rattle.std.proofs.Math.Nat.{mul-le-mul_left}
 use Rattle.decoding_terms.specs.Parameters.{AreEnough, AreParameters, IsAgreement, IsMultiplicity, IsWeight, equation_count, term_count}

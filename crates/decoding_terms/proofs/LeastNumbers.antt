@@ -15,6 +15,7 @@ before P told (suc n) = next (before P told n) (told n)
       where
         told_equal : (k n : ℕ) → k < suc n → (k < n) ⊎ (n ≤ k)
         told_equal k n l = cases_lt k n
+
         last : (k : ℕ) → k < suc n → P k → (k < n) ⊎ (n ≤ k) → ⊥
         last k l h (inl less) = none k less h
         last k l h (inr more) = not_here (subst P (omega (arith, l, more)) h)

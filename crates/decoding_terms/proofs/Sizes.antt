@@ -1,9 +1,8 @@
 -- How large the parameters are.
-use Rattle.std.proofs.Common.{◌≡◌, ◌⊎◌, inl, inr, ℕ, zero, suc, ◌+◌, ◌-◌, ◌*◌, ◌/◌, ◌<◌, ◌≤◌, refl, ◌∙◌, sym, ap, subst, arith}
+use Rattle.std.proofs.Common.{◌≡◌, ◌⊎◌, inl, inr, ℕ, suc, ◌+◌, ◌-◌, ◌*◌, ◌/◌, ◌<◌, ◌≤◌, ap, arith}
 use Rattle.std.proofs.lemmas.Bool.{cases_lt}
 use Rattle.std.proofs.lemmas.Nat.{mul-le}
 use Rattle.std.proofs.Math.Nat.{mul-le-mul, mul-le-mul_left, mul-le-mul_right, lt_of_mul-lt-mul_left, div-le_self}
-use Rattle.decoding_terms.specs.Least.{IsLeast}
 use Rattle.decoding_terms.specs.Parameters.{AreEnough, IsAgreement, IsMultiplicity, IsWeight, equation_count, term_count}
 use Rattle.decoding_terms.proofs.Squares.{above_weight, room, square_above, too_few}
 use Rattle.decoding_terms.proofs.Terms.{many, term_count-next, triangle}
@@ -40,7 +39,7 @@ heavy_enough w r s t some does =
     positive (inl less) = less
     positive (inr no_s) =
         let none : s ≡ 0 = omega (arith, no_s) in
-        let nothing : s * (t * t - w * r) ≡ 0 = ap (λ x. x * (t * t - w * r)) none in
+        let nothing : s * (t * t - w * r) ≡ 0 * (t * t - w * r) = ap (λ x. x * (t * t - w * r)) none in
         absurd (omega (arith, does, nothing))
 
 module _ (w equations e : ℕ) (some : 1 ≤ w) (least : IsWeight w equations e) where

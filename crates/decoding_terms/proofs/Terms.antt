@@ -1,8 +1,8 @@
 -- How many terms weigh less than a number.
-use Rattle.std.proofs.Common.{◌≡◌, ◌⊎◌, inl, inr, ℕ, zero, suc, ◌+◌, ◌-◌, ◌*◌, ◌/◌, ◌%◌, ◌<◌, ◌≤◌, min, refl, ◌∙◌, sym, ap, ap₂, arith}
+use Rattle.std.proofs.Common.{◌≡◌, ◌⊎◌, inl, inr, ℕ, zero, suc, ◌+◌, ◌-◌, ◌*◌, ◌/◌, ◌%◌, ◌<◌, ◌≤◌, min, ap, arith}
 use Rattle.std.proofs.lemmas.Bool.Decides.{nat_tests}
 use Rattle.std.proofs.lemmas.Bool.{cases_lt}
-use Rattle.std.proofs.Math.Nat.{mul-le-mul, mul-le-mul_left, mul-le-mul_right, mul-div-le, div-add-mod, mod-lt}
+use Rattle.std.proofs.Math.Nat.{mul-le-mul_left, mul-le-mul_right, mul-div-le, div-add-mod, mod-lt}
 use Rattle.algebra.specs.Roots.{total}
 use Rattle.decoding_terms.specs.Parameters.{term_count}
 
@@ -40,7 +40,7 @@ triangle w e some =
 
 -- a weight that is greater by one: one more power of x beside each y^j with w j ≤ e
 one_more : (w e q n : ℕ) → w * q ≤ e → e < w * (q + 1) → total n (λ j. e + 1 - w * j) ≡ total n (λ j. e - w * j) + min n (q + 1)
-one_more w e q zero low high = refl
+one_more w e q zero low high = grind (arith, nat_tests)
 one_more w e q (suc n) low high = by_order (one_more w e q n low high) (cases_lt n (q + 1))
   where
     by_order : total n (λ j. e + 1 - w * j) ≡ total n (λ j. e - w * j) + min n (q + 1) → (n < q + 1) ⊎ (q + 1 ≤ n)
@@ -68,7 +68,7 @@ term_count-next w e some =
     let few : e / w ≤ e = quotient_few w e some low in
     let least : min (e + 1) (e / w + 1) ≡ e / w + 1 = grind (arith, nat_tests) in
     let split : total (e + 1) (λ j. e - w * j) ≡ (e - w * e) + total e (λ j. e - w * j) = ap (λ n. total n (λ j. e - w * j)) (suc_is e) in
-    sums ∙ ap₂ (λ x y. x + y) (split ∙ ap (λ x. x + total e (λ j. e - w * j)) last) least
+    omega (arith, sums, split, last, least)
   where
     suc_is : (e : ℕ) → e + 1 ≡ suc e
     suc_is e = omega arith

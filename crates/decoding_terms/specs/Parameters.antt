@@ -1,6 +1,6 @@
 -- The numbers with which a list decoder works: how many points a polynomial has to go through, how often the curve Q(x, y) is zero at each point, and which weight its terms stay below.
 -- Source: V. Guruswami and M. Sudan, Improved decoding of Reed-Solomon and algebraic-geometry codes, IEEE Transactions on Information Theory 45 (1999). That the least multiplicity is taken is this project's own.
-use Rattle.std.specs.Prelude.{◌≡◌, ℕ, ◌+◌, ◌-◌, ◌*◌, ◌/◌, ◌<◌, ◌≤◌, Bool, ◌&&◌, nat_le}
+use Rattle.std.specs.Prelude.{ℕ, ◌+◌, ◌-◌, ◌*◌, ◌/◌, ◌<◌, ◌≤◌, Bool, ◌&&◌, nat_le}
 use Rattle.algebra.specs.Roots.{total}
 use Rattle.decoding_terms.specs.Least.{IsLeast}
 

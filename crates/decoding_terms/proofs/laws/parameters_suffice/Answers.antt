@@ -1,5 +1,3 @@
-use Rattle.std.proofs.Common.{◌≡◌, ◌≤◌, ◌*◌, arith}
-use Rattle.std.proofs.Math.Nat.{mul-le-mul_right}
 use Rattle.decoding_terms.proofs.Sizes.{few_times, light, low, not_many, small_system, square, weight_few}
 use Rattle.decoding_terms.proofs.laws.parameters_suffice.Goals as goal
 
