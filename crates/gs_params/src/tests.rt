@@ -1,6 +1,6 @@
 //! Parameters against a table that was computed apart.
 
-ghost use Rattle.std.specs.Prelude.{◌≡◌};
+ghost use Rattle.std.specs.Prelude.{◌≤◌};
 
 use crate::{ParamError, params};
 

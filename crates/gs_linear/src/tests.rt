@@ -1,0 +1,1 @@
+//! Curves through few points.
