@@ -1,6 +1,8 @@
 -- The linear system of a curve: one row for each point and order of a derivative, one column for each term.
 -- Source: V. Guruswami and M. Sudan, Improved decoding of Reed-Solomon and algebraic-geometry codes, IEEE Transactions on Information Theory 45 (1999).
 use Rattle.std.specs.Prelude.{◌≡◌, ℕ, ◌+◌, ◌*◌, ◌<◌, List, [], length, slice_index_or}
+use Rattle.linear_solve.specs.Tables.{entries}
+use Rattle.system_terms.specs.Systems.{IsZero, Solves}
 use Rattle.algebra.specs.Lists.{coefficients}
 use Rattle.algebra.specs.Ring.{Ring}
 use Rattle.term_lists.specs.declared.exponents.Exponents.{Exponents}
@@ -21,3 +23,11 @@ module _ {F : Type 0} (R : Ring F) where
     pub count : length rows ≡ n * length orders
     pub each : (p o : ℕ) → p < n → o < length orders
         → IsEquation terms (point_at points p).0 (point_at points p).1 (exponents_at orders o) (slice_index_or rows (p * length orders + o) [])
+
+  -- a vector that is not zero and that the rows of all points send to zero
+  pub record IsSolution (terms orders : List Exponents) (points : List (F × F)) (vector : List F) : Type 0 where
+    pub rows : List (List F)
+    pub are : HaveEquations terms orders points (length points) rows
+    pub count : length vector ≡ length terms
+    pub solves : Solves R (length rows) (length terms) (entries R rows) (coefficients R vector)
+    pub nonzero : IsZero R (length terms) (coefficients R vector) → ⊥
