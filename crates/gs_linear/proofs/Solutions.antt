@@ -1,7 +1,7 @@
 -- A vector of the system's kernel is a curve.
 use Rattle.std.proofs.Common.{◌≡◌, ◌≢◌, ◌⊎◌, inl, inr, ℕ, zero, suc, ◌+◌, ◌-◌, ◌*◌, ◌/◌, ◌%◌, ◌<◌, ◌≤◌, List, [], None, Some, Ok, Err, IsNone, length, get_or, refl, ◌∙◌, sym, ap, subst, arith}
 use Rattle.std.proofs.lemmas.Bool.{cases_lt}
-use Rattle.std.specs.FinMap.{empty, get, get-empty}
+use Rattle.std.specs.FinMap.{empty, get-empty}
 use Rattle.std.specs.List.{All}
 use Rattle.std.specs.declared.result.Result.{Result}
 use Rattle.std.specs.Result.{IfOk}
@@ -12,12 +12,10 @@ use Rattle.std.proofs.lemmas.Nat.{mul-le}
 use Rattle.std.proofs.Math.Nat.{div-add-mod, mod-lt, mul-le-mul_left, mul-le-mul_right, lt_of_mul-lt-mul_right}
 use Rattle.algebra.specs.Ring.{Ring}
 use Rattle.algebra.specs.Lists.{coefficients}
-use Rattle.algebra.specs.Bivariate.{Bivariate, HasMultiplicity, coefficient, greatest, hasse_derivative, pair_cmp, weight_by}
-use Rattle.algebra.specs.Sums.{sum_below}
+use Rattle.algebra.specs.Bivariate.{Bivariate, HasMultiplicity, coefficient, greatest, pair_cmp, weight_by}
 use Rattle.algebra.proofs.Sums.{sum_same}
 use Rattle.algebra.proofs.Entries.{greatest_least}
-use Rattle.decoding_terms.specs.Parameters.{IsWeight, equation_count, term_count}
-use Rattle.decoding_terms.proofs.Sizes.{not_many, some_weight}
+use Rattle.decoding_terms.specs.Parameters.{equation_count, term_count}
 use Rattle.decoding_terms.proofs.Terms.{many, term_count-next}
 use Rattle.linear_solve.specs.Tables.{HaveLength, entries}
 use Rattle.system_terms.specs.Systems.{IsZero, Solves}
@@ -88,10 +86,11 @@ module _ {F : Type 0} (R : Ring F) (terms orders : List Exponents) (points : Lis
     row_at p u v l few =
         let light : u + 1 * v < s = omega (arith, few) in
         let order : place 1 u v < length orders = omega (arith, place_below 1 s u v (omega arith) light, all.count) in
-        let more : (p + 1) * length orders ≤ length points * length orders = mul-le-mul_right (length orders) (omega (arith, l)) in
-        (p * length orders + place 1 u v,
-            omega (arith, more, order, have.count),
-            subst (λ t. IsEquation R terms (point_at R points p).0 (point_at R points p).1 t (get_or rows (p * length orders + place 1 u v) [])) (all.every u v light) (have.each p (place 1 u v) l order))
+        let more : (p + 1) * length orders ≤ length points * length orders = mul-le-mul_right (length orders) (omega (arith, l)) in (
+          p * length orders + place 1 u v,
+          omega (arith, more, order, have.count),
+          subst (λ t. IsEquation R terms (point_at R points p).0 (point_at R points p).1 t (get_or rows (p * length orders + place 1 u v) [])) (all.every u v light) (have.each p (place 1 u v) l order),
+        )
 
     pub multiplicity : (p : ℕ) → p < length points → HasMultiplicity R s q (point_at R points p).0 (point_at R points p).1
     multiplicity p l u v few =

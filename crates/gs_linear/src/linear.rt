@@ -11,7 +11,7 @@ use gs_params::{Interpolate, Params};
 use linear_solve::Matrix;
 use lists::Memory;
 use std::alloc::Global;
-use term_lists::{polynomial_of, terms_below, Exponents};
+use term_lists::{Exponents, polynomial_of, terms_below};
 
 /// Finds a curve by linear algebra: the unknowns are the coefficients of the terms that weigh less than e, and each order of a
 /// derivative at each point gives an equation.

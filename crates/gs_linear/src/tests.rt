@@ -5,7 +5,7 @@ ghost use Rattle.std.specs.Prelude.{◌≡◌, ◌<◌, ◌≤◌, length};
 use crate::Linear;
 use bi_poly::BiPoly;
 use gf2m::{Field, Gf, Ledger, Steps};
-use gs_params::{params, Interpolate};
+use gs_params::{Interpolate, params};
 use std::alloc::Global;
 use std::marker::Brand;
 use std::process::Abort;
@@ -35,7 +35,9 @@ fn points_of<F: Field>(alloc: Global, count: u8, columns: u8) -> Option<Vec<(F, 
 {
     let mut points = Vec::new(alloc);
     'points: for i in 0..count {
-        points.push((F::of(i % columns)?, F::of(i / columns + i % 3)?)).ok()?;
+        points
+            .push((F::of(i % columns)?, F::of(i / columns + i % 3)?))
+            .ok()?;
     }
     Some(points)
 }

@@ -1,10 +1,9 @@
 -- Where the two searches stop.
-use Rattle.std.proofs.Common.{◌≡◌, ◌⊎◌, inl, inr, ℕ, ◌+◌, ◌-◌, ◌*◌, ◌<◌, ◌≤◌, subst, arith}
+use Rattle.std.proofs.Common.{◌⊎◌, inl, inr, ℕ, ◌+◌, ◌-◌, ◌*◌, ◌<◌, ◌≤◌, subst, arith}
 use Rattle.std.proofs.lemmas.Bool.{cases_lt}
 use Rattle.std.proofs.Math.Nat.{mul-le-mul_right}
-use Rattle.decoding_terms.specs.Parameters.{AreEnough, IsAgreement, IsMultiplicity, IsWeight, equation_count, term_count}
-use Rattle.decoding_terms.proofs.Sizes.{bound_does, low, some_bound}
-use Rattle.decoding_terms.proofs.Terms.{many}
+use Rattle.decoding_terms.specs.Parameters.{AreEnough, IsAgreement}
+use Rattle.decoding_terms.proofs.Sizes.{bound_does}
 
 -- a multiplicity that does not do is below the bound times the weight
 pub below_bound : (w c r t s : ℕ) → AreEnough w c r → IsAgreement c r t → s * (t * t - w * r) ≤ w * r - t → s < c * w

@@ -84,7 +84,11 @@ impl<F: Field> Matrix<F> {
     }
 
     /// A vector that every row sends to zero: one that is not zero, where there is one. The only error is want of memory.
-    pub fn kernel<P: Ledger>(self, alloc: Global, prods: &mut Steps<P>) -> Result<Option<Elements<F>>, Memory>
+    pub fn kernel<P: Ledger>(
+        self,
+        alloc: Global,
+        prods: &mut Steps<P>,
+    ) -> Result<Option<Elements<F>>, Memory>
         ensures length { IfOk result (λ found. IfSome found (λ x. length x ≡ self.columns)) }
         ensures solves { IfOk result (λ found. IfSome found (λ x.
             Solves F.ring (length self.rows) self.columns (entries F.ring self.rows) (coefficients F.ring x))) }
@@ -95,10 +99,7 @@ impl<F: Field> Matrix<F> {
         ensures wide { length self.rows < self.columns → IfOk result (λ found. IsNone found → ⊥) }
         ensures products { prods.new ≤ prods.old + 3 * (length self.rows * length self.rows) * self.columns }
     {
-        let Matrix {
-            columns,
-            rows,
-        } = self;
+        let Matrix { columns, rows } = self;
         let pivots = eliminate(alloc, rows, columns, prods)?;
         let Some(free) = free_column(&pivots, columns) else {
             return Ok(None);
@@ -113,10 +114,7 @@ impl<F: Field> Matrix<F> {
             IsRank F.ring (length self.rows) self.columns (entries F.ring self.rows) rank) }
         ensures products { prods.new ≤ prods.old + 3 * (length self.rows * length self.rows) * self.columns }
     {
-        let Matrix {
-            columns,
-            rows,
-        } = self;
+        let Matrix { columns, rows } = self;
         let pivots = eliminate(alloc, rows, columns, prods)?;
         Ok(pivots.len())
     }

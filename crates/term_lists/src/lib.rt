@@ -4,5 +4,5 @@
 mod exponents;
 mod polynomials;
 
-pub use exponents::{terms_below, Exponents};
+pub use exponents::{Exponents, terms_below};
 pub use polynomials::polynomial_of;

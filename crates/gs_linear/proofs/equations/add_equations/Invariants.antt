@@ -1,4 +1,4 @@
-use Rattle.std.proofs.Common.{◌≡◌, ◌+◌, ◌*◌, ◌≤◌, [], length, map}
+use Rattle.std.proofs.Common.{◌+◌, ◌*◌, ◌≤◌, [], length, map}
 use Rattle.term_lists.specs.Extended.{IsExtended}
 use Rattle.term_lists.specs.Places.{exponents_at}
 use Rattle.gs_linear.specs.Equations.{IsEquation}

@@ -1,4 +1,4 @@
-use Rattle.std.proofs.Common.{◌≡◌, ◌+◌, ◌<◌, [], length, sym, ◌∙◌, ap, ap₂, subst, arith}
+use Rattle.std.proofs.Common.{◌≡◌, ◌+◌, [], sym, ◌∙◌, ap₂, subst, arith}
 use Rattle.term_lists.specs.Extended.{IsExtended}
 use Rattle.term_lists.specs.Places.{exponents_at}
 use Rattle.term_lists.specs.Polynomials.{term_derivative}

@@ -1,4 +1,4 @@
-use Rattle.std.proofs.Common.{◌≡◌, ◌+◌, ◌*◌, ◌≤◌, [], length, map, ◌∙◌, subst, arith}
+use Rattle.std.proofs.Common.{◌≡◌, [], length, map, ◌∙◌, subst, arith}
 use Rattle.std.proofs.lemmas.List.{get_or_default}
 use Rattle.term_lists.specs.Extended.{IsExtended}
 use Rattle.term_lists.specs.Places.{exponents_at}

@@ -1,4 +1,4 @@
-use Rattle.std.proofs.Common.{◌≡◌, ◌+◌, ◌*◌, ◌≤◌, length, map}
+use Rattle.std.proofs.Common.{◌+◌, ◌*◌, ◌≤◌, length, map}
 use Rattle.gs_linear.specs.Equations.{HaveEquations}
 use Rattle.gs_linear.proofs.equations.equations.Given as goal
 

@@ -1,4 +1,4 @@
-use Rattle.std.proofs.Common.{◌≡◌, ℕ, ◌*◌, ◌≤◌, subst}
+use Rattle.std.proofs.Common.{subst}
 use Rattle.decoding_terms.specs.Parameters.{IsWeight}
 use Rattle.decoding_terms.proofs.Sizes.{light}
 use Rattle.gs_params.proofs.choice.chosen.Goals as goal

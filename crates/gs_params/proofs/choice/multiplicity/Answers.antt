@@ -1,4 +1,4 @@
-use Rattle.std.proofs.Common.{◌≡◌, ℕ, ◌+◌, ◌-◌, ◌*◌, ◌<◌, ◌≤◌, arith}
+use Rattle.std.proofs.Common.{◌-◌, ◌*◌, ◌≤◌, arith}
 use Rattle.decoding_terms.proofs.Sizes.{small_system, square}
 use Rattle.gs_params.proofs.Bounds.{below_bound, through}
 use Rattle.gs_params.proofs.choice.multiplicity.Goals as goal

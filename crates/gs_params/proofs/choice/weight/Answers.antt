@@ -1,4 +1,4 @@
-use Rattle.std.proofs.Common.{◌≡◌, ℕ, ◌+◌, ◌-◌, ◌*◌, ◌/◌, ◌<◌, ◌≤◌, ◌∙◌, sym, arith}
+use Rattle.std.proofs.Common.{◌/◌, ◌≤◌, arith}
 use Rattle.std.proofs.Math.Nat.{div-le_self}
 use Rattle.decoding_terms.specs.Parameters.{term_count}
 use Rattle.decoding_terms.proofs.Sizes.{low}

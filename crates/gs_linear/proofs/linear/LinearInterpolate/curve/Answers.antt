@@ -1,10 +1,10 @@
-use Rattle.std.proofs.Common.{◌≡◌, ◌≢◌, ◌+◌, ◌*◌, ◌<◌, ◌≤◌, length, map, sym, ◌∙◌, ap, subst, arith}
+use Rattle.std.proofs.Common.{◌≢◌, ◌<◌, length, sym, subst, arith}
 use Rattle.std.specs.FinMap.{empty}
 use Rattle.std.specs.List.{All}
 use Rattle.std.specs.Result.{IfOk}
 use Rattle.algebra.specs.Bivariate.{HasMultiplicity, greatest, weight_by}
 use Rattle.decoding_terms.proofs.Sizes.{some_weight}
-use Rattle.term_lists.specs.Places.{AreTermsBelow, exponents_at}
+use Rattle.term_lists.specs.Places.{AreTermsBelow}
 use Rattle.term_lists.specs.Polynomials.{HasTerms}
 use Rattle.term_lists.proofs.Ordered.{all_different}
 use Rattle.gs_linear.specs.Equations.{IsSolution}
@@ -21,7 +21,6 @@ pub polynomial_of-requires-clause-different : goal.polynomial_of-requires-clause
 polynomial_of-requires-clause-different g c =
     let p = c.args.params.now in
     all_different p.w p.e c.deref-3.result.now (subst (AreTermsBelow p.w p.e) (sym c.deref-3.ensures.value) c.in_ok-terms.ensures)
-
 
 pub returns-clause-nonzero : goal.returns-clause-nonzero
 returns-clause-nonzero g c =
