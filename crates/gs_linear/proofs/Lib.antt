@@ -1,0 +1,3 @@
+pub mod PowerTables
+pub mod Rows
+pub mod Solutions
