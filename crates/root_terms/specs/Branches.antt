@@ -32,6 +32,15 @@ pub record IsBranch {F : Type 0} (R : Ring F) (q : Bivariate F) (c : F) (branch 
   pub y : greatest y_power branch ≤ greatest y_power q
   pub weight : (w : ℕ) → greatest (weight_by w) branch ≤ greatest (weight_by (suc w)) q
 
+-- the same y-roots, without the powers of x that divide Q
+pub record IsReduction {F : Type 0} (R : Ring F) (q : Bivariate F) (curve : Bivariate F) : Type 0 where
+  pub below : (f : ℕ → F) → IsYRoot R curve f → IsYRoot R q f
+  pub above : (f : ℕ → F) → IsYRoot R q f → IsYRoot R curve f
+  pub reduced : IsReduced R curve
+  pub x : greatest x_power curve ≤ greatest x_power q
+  pub y : greatest y_power curve ≤ greatest y_power q
+  pub weight : (w : ℕ) → greatest (weight_by w) curve ≤ greatest (weight_by w) q
+
 -- how many products the search for k coefficients may take, where the degree of Q(0, y) is at most d, all powers of y are below y, and the weight, in which y counts as the k - 1 coefficients after the first, is below e
 abbrev pub search_bound : (k d y e : ℕ) → ℕ
 search_bound k d y e = 256 + k * (d * (512 + e * (y * y)))

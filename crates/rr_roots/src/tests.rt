@@ -1,0 +1,1 @@
+//! Curves whose y-roots were computed apart from this program.
