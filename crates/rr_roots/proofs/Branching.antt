@@ -2,7 +2,7 @@
 use Rattle.std.proofs.Common.{◌≡◌, ◌≢◌, inl, inr, ℕ, zero, suc, ◌+◌, ◌-◌, ◌*◌, ◌<◌, ◌≤◌, None, Some, refl, sym, ◌∙◌, ap, subst, arith}
 use Rattle.std.specs.declared.option.Option.{Option}
 use Rattle.std.specs.Option.{unwrap_or}
-use Rattle.std.specs.FinMap.{get, empty}
+use Rattle.std.specs.FinMap.{get, empty, get-empty}
 use Rattle.std.proofs.lemmas.Bool.{cases_lt}
 use Rattle.std.proofs.lemmas.Nat.{mul-le}
 use Rattle.std.proofs.Math.Numerals.{add-one}
@@ -10,7 +10,7 @@ use Rattle.std.proofs.Math.Nat.{mul-le-mul_left, mul-le-mul_right}
 use mathlib.Core.Path.{fun_ext}
 use Rattle.algebra.specs.Ring.{Ring, IsField}
 use Rattle.algebra.specs.Series.{value}
-use Rattle.algebra.specs.Bivariate.{Bivariate, coefficient, greatest, weight_by, x_power, y_power, shift_of}
+use Rattle.algebra.specs.Bivariate.{Bivariate, IsProper, coefficient, greatest, pair_cmp, weight_by, x_power, y_power, shift_of}
 use Rattle.algebra.proofs.Entries.{coefficient_past, greatest_at, greatest_least, greatest_reached, within}
 use Rattle.bi_poly.specs.Results.{kept, IsMapOf, IsPowerOfX, IsStripped, shift_bound}
 use Rattle.bi_poly.proofs.Cells.{kept_nil}
@@ -20,9 +20,20 @@ use Rattle.root_terms.specs.Branches.{at_zero, IsReduced, IsNarrow, IsBranch, Is
 use Rattle.root_terms.proofs.Shifts.{shift_low, shift_first, root_of_shift}
 use Rattle.root_terms.proofs.Steps.{along_shift, no_entry, root_of_stripped, stripped_root}
 
+-- the zero polynomial has no coefficients
+pub zero_coefficient : {F : Type 0} (R : Ring F) (q : Bivariate F) → q ≡ empty → (i j : ℕ) → coefficient R q i j ≡ R.nil
+zero_coefficient {F} R q e i j = ap (λ (t : Bivariate F). coefficient R t i j) e ∙ ap (λ (o : Option F). unwrap_or o R.nil) (get-empty pair_cmp (i, j))
+
 -- a polynomial with a coefficient at x = 0 is not zero
 pub reduced_nonzero : {F : Type 0} (R : Ring F) (q : Bivariate F) → IsReduced R q → q ≢ empty
-reduced_nonzero {F} R q some e = some.1 (ap (λ (t : Bivariate F). coefficient R t 0 some.0) e)
+reduced_nonzero R q some e = some.1 (zero_coefficient R q e 0 some.0)
+
+-- where no coefficient in the map is zero
+pub proper_nonzero : {F : Type 0} (R : Ring F) (q : Bivariate F) → IsProper R q → (i j : ℕ) → get q (i, j) ≢ None → coefficient R q i j ≢ R.nil
+proper_nonzero {F} R q proper i j = elim (get q (i, j)) as (λ (o : Option F). o ≢ Some R.nil → o ≢ None → unwrap_or o R.nil ≢ R.nil) [
+  | None ↦ λ p n e. n refl
+  | Some x ↦ λ p n e. p (ap (λ t. Some t) e)
+] (proper i j)
 
 -- what a division by a power of x makes of weights
 module _ {F : Type 0} (q curve : Bivariate F) (r : ℕ) (stripped : IsStripped r q curve) where
@@ -133,3 +144,10 @@ module _ {F : Type 0} (R : Ring F) where
       let x : greatest x_power q + 1 ≤ e = omega arith in
       let powers : greatest y_power q + 1 ≤ y = omega arith in
       mul-le (greatest x_power q + 1) ((greatest y_power q + 1) * (greatest y_power q + 1)) e (y * y) x (mul-le (greatest y_power q + 1) (greatest y_power q + 1) y y powers powers)
+
+  -- Q(x, 0) has no powers past its greatest
+  pub vanishes : (q : Bivariate F) (d : ℕ) → d ≡ greatest x_power q → ((i : ℕ) → i < d + 1 → coefficient R q i 0 ≡ nil) → (i : ℕ) → coefficient R q i 0 ≡ nil
+  vanishes q d e zeros i = elim (cases_lt i (d + 1)) [
+    | inl l ↦ zeros i l
+    | inr l ↦ past_x q i 0 (omega arith)
+  ]

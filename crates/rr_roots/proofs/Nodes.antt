@@ -1,6 +1,7 @@
 -- A node of the search: the constants that it follows, the lists that it finds, and their number and that of the products.
-use Rattle.std.proofs.Common.{◌≡◌, ◌≢◌, inl, inr, ℕ, zero, suc, ◌+◌, ◌-◌, ◌*◌, ◌<◌, ◌≤◌, ◌^◌, List, [], ◌∷◌, ◌++◌, map, length, slice_index_or, refl, sym, ◌∙◌, ap, ap₂, subst, arith}
+use Rattle.std.proofs.Common.{◌≡◌, ◌≢◌, inl, inr, ℕ, zero, suc, ◌+◌, ◌-◌, ◌*◌, ◌<◌, ◌≤◌, ◌^◌, true, false, List, [], ◌∷◌, ◌++◌, map, length, slice_index_or, refl, sym, ◌∙◌, ap, ap₂, subst, arith}
 use Rattle.std.proofs.lemmas.Bool.{cases_lt, cases_order}
+use Rattle.std.proofs.lemmas.List.{get_or_default}
 use Rattle.std.proofs.Math.Pow.{pow_mono}
 use Rattle.std.proofs.Math.Nat.{mul-le-mul_left, mul-le-mul_right}
 use mathlib.Core.Path.{fun_ext}
@@ -34,10 +35,13 @@ module _ {F : Type 0} (R : Ring F) (q : Bivariate F) where
       at zero d l = (refl, λ k. substituted_zero R q (coefficients R []) (λ i m. refl) k ∙ zeros k)
       at (suc i) d l = absurd (omega arith)
 
-  pub no_last_list : (((i : ℕ) → coefficient R q i 0 ≡ nil) → ⊥) → AreYRootLists R q 0 []
+  not_true : false ≡ true → ⊥
+  not_true e = cc
+
+  pub no_last_list : (((i : ℕ) → coefficient R q i 0 ≡ nil) → false ≡ true) → AreYRootLists R q 0 []
   no_last_list none = record {
     only = λ i d l. absurd (omega arith);
-    every = λ f b h. absurd (none (λ i. sym (substituted_zero R q f b i) ∙ h i));
+    every = λ f b h. absurd (not_true (none (λ i. sym (substituted_zero R q f b i) ∙ h i)));
     apart = λ i j d l m. absurd (omega arith);
   }
 
@@ -77,23 +81,57 @@ module _ {F : Type 0} (R : Ring F) (q : Bivariate F) where
       | inr l ↦ absurd (some.1 (sym (of.each some.0) ∙ coefficients_below R list some.0 (omega arith)))
     ]
 
-    pub branch_lists : (k : ℕ) (n : ℕ) (lists tails : List (List F)) (child : Bivariate F) → n < length constants → AreFound R q k constants n lists
-        → IsBranch R q (coefficients R constants n) child → AreYRootLists R child k tails
-        → AreFound R q k constants (n + 1) (lists ++ map (λ tail. coefficients R constants n ∷ tail) tails)
-    branch_lists k n lists tails child l so_far branch below = more_found R q k constants n lists tails child so_far branch below (new_constant n l)
+  -- what a node has at hand: the coefficients of Q(0, y), and its roots
+  pub record IsNode (number : F → ℕ) (list constants : List F) : Type 0 where
+    pub of : IsListOf R (at_zero R q) list
+    pub roots : IsRootList R number list constants
+    pub some : 0 < length list
+    pub few : length constants < length list
 
-    pub node_lists : (k : ℕ) (lists : List (List F)) → AreFound R q k constants (length constants) lists → AreYRootLists R q (k + 1) lists
-    node_lists k lists all = all_found R q k constants lists constant_found all
+  pub node_of : (number : F → ℕ) (list constants given : List F) → IsListOf R (at_zero R q) list → constants ≡ given → IsRootList R number list given
+      → (0 < length list → length given < length list) → IsReduced R q → IsNode number list constants
+  node_of number list constants given of same roots few reduced =
+      let some : 0 < length list = some_list number list given of roots reduced in
+      record {
+        of = of;
+        roots = subst (IsRootList R number list) (sym same) roots;
+        some = some;
+        few = omega (arith, ap length same, few some);
+      }
 
-    module _ (field : IsField R) (some : 0 < length list) (few : length constants < length list) where
-      pub few_found : (n k lists s before now most : ℕ) → n ≤ length constants → IsSpent R q constants n k lists s before now → IsNarrow R most q → lists ≤ most
-      few_found n k lists s before now most l spent narrow =
-          few_lists R q constants field list of (length list - 1) (omega arith) different n k lists s before now most l spent narrow
+  -- the constant that is read from a slice of the roots
+  pub constant_is : (constants given slice : List F) (n : ℕ) (x : F) → constants ≡ given → slice ≡ given → n < length constants → x ≡ slice_index_or slice n x → x ≡ coefficients R constants n
+  constant_is constants given slice n x same read l e =
+      e ∙ ap (λ (t : List F). slice_index_or t n x) (read ∙ sym same) ∙ get_or_default constants n x nil l
 
-      pub within_bound : (n k lists s before now old size most : ℕ) → n ≤ length constants → size ≤ 256 → before ≤ old + size * length list
-          → IsSpent R q constants n k lists s before now → IsNarrow R most q → now ≤ old + (256 + (k + 1) * (most * (512 + s)))
-      within_bound n k lists s before now old size most l small start spent narrow =
-          few_products R q constants field list of (length list - 1) (omega arith) different n k lists s before now old size most l (omega arith) small start spent narrow
+  -- the lists of one branch more
+  pub branch_lists : (number : F → ℕ) (list constants : List F) → IsNode number list constants → (k n : ℕ) (lists slice tails added : List (List F)) (child : Bivariate F) (c : F)
+      → n < length constants → c ≡ coefficients R constants n → slice ≡ tails → added ≡ lists ++ map (λ tail. c ∷ tail) slice
+      → AreFound R q k constants n lists → IsBranch R q c child → AreYRootLists R child k tails → AreFound R q k constants (n + 1) added
+  branch_lists number list constants node k n lists slice tails added child c l same read whole so_far branch below =
+      let all : added ≡ lists ++ map (λ tail. coefficients R constants n ∷ tail) tails = whole ∙ ap₂ (λ (t : List (List F)) (b : F). lists ++ map (λ tail. b ∷ tail) t) read same in
+      subst (AreFound R q k constants (n + 1)) (sym all)
+      (more_found R q k constants n lists tails child so_far (subst (λ t. IsBranch R q t child) same branch) below (new_constant number list constants node.of node.roots n l))
+
+  pub node_lists : (number : F → ℕ) (list constants : List F) → IsNode number list constants → (count n : ℕ) (lists : List (List F)) → 0 < count → n ≡ length constants
+      → AreFound R q (count - 1) constants n lists → AreYRootLists R q count lists
+  node_lists number list constants node count n lists some end all =
+      let whole : count - 1 + 1 ≡ count = omega arith in
+      subst (λ t. AreYRootLists R q t lists) whole
+      (all_found R q (count - 1) constants lists (constant_found number list constants node.of node.roots) (subst (λ t. AreFound R q (count - 1) constants t lists) end all))
+
+  module _ (field : IsField R) (number : F → ℕ) (list constants : List F) (node : IsNode number list constants) where
+    pub few_found : (n k lists s before now most : ℕ) → n ≤ length constants → IsSpent R q constants n k lists s before now → IsNarrow R most q → lists ≤ most
+    few_found n k lists s before now most l spent narrow =
+        few_lists R q constants field list node.of (length list - 1) (omega (arith, node.some)) (different number list constants node.of node.roots) n k lists s before now most l spent narrow
+
+    pub node_bound : (count n lists y e before now old size most : ℕ) → 0 < count → n ≤ length constants → size ≤ 256 → before ≤ old + size * length list
+        → IsSpent R q constants n (count - 1) lists (e * (y * y)) before now → IsNarrow R most q → now ≤ old + search_bound count most y e
+    node_bound count n lists y e before now old size most some l small start spent narrow =
+        let whole : count - 1 + 1 ≡ count = omega arith in
+        subst (λ t. now ≤ old + (256 + t * (most * (512 + e * (y * y))))) whole
+        (few_products R q constants field list node.of (length list - 1) (omega (arith, node.some)) (different number list constants node.of node.roots) n (count - 1) lists (e * (y * y))
+        before now old size most l (omega (arith, node.few)) small start spent narrow)
 
   -- after a shift that a branch is not followed from
   pub after_shift : (constants : List F) (n k lists s before now new : ℕ) → IsSpent R q constants n k lists s before now → new ≤ now + s → IsSpent R q constants (n + 1) k (lists + 0) s before new
@@ -115,32 +153,41 @@ module _ {F : Type 0} (R : Ring F) (q : Bivariate F) where
 
   -- one branch more, with so many lists
   pub after_branch : (constants : List F) (n k lists y e before now mid new more : ℕ) → IsSpent R q constants n k lists (e * (y * y)) before now
-      → (child : Bivariate F) (branch : IsBranch R q (coefficients R constants n) child) → mid ≤ now + e * (y * y)
+      → (child : Bivariate F) (c : F) → c ≡ coefficients R constants n → (branch : IsBranch R q c child) → mid ≤ now + e * (y * y)
       → greatest y_power q < y → greatest (weight_by k) q < e
       → ((d y e : ℕ) → IsNarrow R d child → greatest y_power child < y → greatest (weight_by (k - 1)) child < e → new ≤ mid + search_bound k d y e)
       → more ≤ branch.order → IsSpent R q constants (n + 1) k (lists + more) (e * (y * y)) before new
-  after_branch constants n k lists y e before now mid new more spent child branch shift l m tails few =
-      let cost : new ≤ mid + (256 + k * (branch.order * (512 + e * (y * y)))) = tails_products k child (coefficients R constants n) branch y e mid new l m tails in
-      more_spent R q constants n k lists (e * (y * y)) before now spent branch.order branch.root more new few (omega arith)
+  after_branch constants n k lists y e before now mid new more spent child c same branch shift l m tails few =
+      let cost : new ≤ mid + (256 + k * (branch.order * (512 + e * (y * y)))) = tails_products k child c branch y e mid new l m tails in
+      more_spent R q constants n k lists (e * (y * y)) before now spent branch.order (subst (λ t. HasRoot R branch.order (at_zero R q) t) same branch.root) more new few (omega arith)
 
 -- no field of this project has more elements
 pub few_elements : (size bits : ℕ) → size ≡ 2 ^ bits → bits ≤ 8 → size ≤ 256
 few_elements size bits e l = let most : 2 ^ bits ≤ 2 ^ 8 = pow_mono l in omega arith
 
 -- the products of a node that finds no roots, since memory failed
-pub early_products : (F : Type 0) (R : Ring F) (q : Bivariate F) (list : List F) → IsListOf R (at_zero R q) list → (size old now k most s : ℕ) → size ≤ 256 → IsNarrow R most q
-    → now ≤ old + size * length list → now ≤ old + (256 + (k + 1) * (most * (512 + s)))
-early_products F R q list of size old now k most s small narrow l =
+pub early_products : (F : Type 0) (R : Ring F) (q : Bivariate F) (list : List F) → IsListOf R (at_zero R q) list → (size old now count most y e : ℕ) → 0 < count → size ≤ 256
+    → IsNarrow R most q → now ≤ old + size * length list → now ≤ old + search_bound count most y e
+early_products F R q list of size old now count most y e some small narrow l =
     let short : length list ≤ most + 1 = elim (cases_lt (most + 1) (length list)) [
       | inl m ↦
-          let last : length list - 1 ≤ most = narrow (length list - 1) (λ e. of.trimmed (length list - 1) (omega arith) (of.each (length list - 1) ∙ e)) in
+          let last : length list - 1 ≤ most = narrow (length list - 1) (λ h. of.trimmed (length list - 1) (omega arith) (of.each (length list - 1) ∙ h)) in
           absurd (omega arith)
       | inr m ↦ m
     ] in
     let elements : size * length list ≤ 256 * length list = mul-le-mul_right (length list) small in
     let all : 256 * length list ≤ 256 * (most + 1) = mul-le-mul_left 256 short in
-    let wide : 1 * (most * (512 + s)) ≤ (k + 1) * (most * (512 + s)) = mul-le-mul_right (most * (512 + s)) (omega arith) in
+    let wide : 1 * (most * (512 + e * (y * y))) ≤ count * (most * (512 + e * (y * y))) = mul-le-mul_right (most * (512 + e * (y * y))) some in
     omega arith
+
+-- the room of a branch
+pub branch_room : {F : Type 0} (R : Ring F) (q child : Bivariate F) (c : F) (count : ℕ) → 0 < count → IsBranch R q c child → greatest x_power q + count * greatest y_power q < 65536
+    → greatest x_power child + (count - 1) * greatest y_power child < 65536
+branch_room R q child c count some branch l =
+    let less : (count - 1) * greatest y_power child ≤ (count - 1) * greatest y_power q = mul-le-mul_left (count - 1) branch.y in
+    let whole : count ≡ (count - 1) + 1 = omega arith in
+    let split : count * greatest y_power q ≡ (count - 1) * greatest y_power q + greatest y_power q = ap (λ t. t * greatest y_power q) whole ∙ omega arith in
+    omega (arith, branch.x)
 
 -- the products of the whole search, where d is the greatest power of y
 pub whole_bound : (k d e : ℕ) → 1 ≤ k → search_bound k d (d + 1) e ≤ k * ((d + 1) * (d + 1) * (256 + e * (d + 1)))

@@ -22,7 +22,7 @@ module _ {F : Type 0} (digit : F → ℕ) (size : ℕ) (below : (x : F) → digi
   number_below : (list : List F) → number_of digit size list < 256 ^ length list
   number_below [] = omega arith
   number_below (c ∷ list) =
-      let rest : number_of digit size list + 1 ≤ 256 ^ length list = number_below list in
+      let rest : number_of digit size list + 1 ≤ 256 ^ length list = omega (arith, number_below list) in
       let high : size * (number_of digit size list + 1) ≤ size * 256 ^ length list = mul-le-mul_left size rest in
       let wide : size * 256 ^ length list ≤ 256 * 256 ^ length list = mul-le-mul_right (256 ^ length list) small in
       let next : 256 ^ suc (length list) ≡ 256 ^ length list * 256 = pow-suc 256 (length list) in

@@ -34,6 +34,7 @@ pub fn reduction<F: Field>(q: &BiPoly<F>) -> Result<BiPoly<F>, Memory>
     requires { q.now ≢ empty }
     ensures { IfOk result (λ curve. IsReduction F.ring q.now curve) }
 {
+    q.tell();
     let mut curve = q.copy()?;
     curve.strip_x();
     Ok(curve)
@@ -44,10 +45,17 @@ pub fn vanishes_at_zero<F: Field>(q: &BiPoly<F>) -> bool
     requires { greatest x_power q.now < 65536 }
     ensures { IsTrue result ↔ ((i : ℕ) → coefficient F.ring q.now i 0 ≡ F.ring.nil) }
 {
-    let Some(degree) = q.x_degree() else {
-        return true;
-    };
-    'powers: for i in 0..degree + 1 {
+    match q.x_degree() {
+        Some(degree) => vanishes_below(q, degree + 1),
+        None => true,
+    }
+}
+
+// Whether the first coefficients of Q(x, 0) are zero.
+fn vanishes_below<F: Field>(q: &BiPoly<F>, count: usize) -> bool
+    ensures { IsTrue result ↔ ((i : ℕ) → i < count → coefficient F.ring q.now i 0 ≡ F.ring.nil) }
+{
+    'powers: for i in 0..count {
         if q.coef(i, 0) != F::zero() {
             return false;
         }

@@ -48,9 +48,10 @@ fn last_lists<F: Field>(alloc: Global, q: &BiPoly<F>) -> Result<Vec<Elements<F>>
     ensures few { IfOk result (λ lists. length lists.items ≤ 1) }
 {
     let mut lists = Vec::new(alloc);
-    if vanishes_at_zero(q) {
-        lists.push(Items::over(Vec::new(alloc)))?;
+    if !vanishes_at_zero(q) {
+        return Ok(lists);
     }
+    lists.push(Items::over(Vec::new(alloc)))?;
     Ok(lists)
 }
 
