@@ -122,3 +122,9 @@ module _ {F : Type 0} (R : Ring F) (q : Bivariate F) (constants : List F) where
     few_products n k lists s before now old size most l m small start spent narrow =
         let first : size * length list ≡ size * (d + 1) = ap (λ t. size * t) degree in
         node_products k d n (total n spent.order) most s size old before now small (omega arith) (total_few n k lists s before now l spent) (narrow d lead) (omega arith) spent.products
+
+-- the products of the whole search, where d is the greatest power of y
+pub whole_bound : (k d e : ℕ) → 1 ≤ k → search_bound k d (d + 1) e ≤ k * ((d + 1) * (d + 1) * (256 + e * (d + 1)))
+whole_bound k d e l =
+    let base : 256 * 1 ≤ 256 * k = mul-le-mul_left 256 l in
+    omega arith

@@ -3,4 +3,4 @@
 
 mod laws;
 
-pub use laws::laws_of_constants;
+pub use laws::{laws_of_bounds, laws_of_constants, laws_of_numbers, laws_of_orders};

@@ -119,17 +119,6 @@ module _ {F : Type 0} (R : Ring F) where
           omega arith;
     }
 
-  -- a polynomial that x does not divide, with its own y-roots
-  pub reduction_itself : (q : Bivariate F) → IsReduced R q → IsReduction R q q
-  reduction_itself q some = record {
-    below = λ f h. h;
-    above = λ f h. h;
-    reduced = some;
-    x = omega arith;
-    y = omega arith;
-    weight = λ w. omega arith;
-  }
-
   -- no powers of x past the greatest
   pub past_x : (q : Bivariate F) (i j : ℕ) → greatest x_power q < i → coefficient R q i j ≡ nil
   past_x q i j l = coefficient_past R (greatest x_power q + 1) (greatest y_power q + 1) q (within q) i j (inl (omega arith))

@@ -188,9 +188,3 @@ branch_room R q child c count some branch l =
     let whole : count ≡ (count - 1) + 1 = omega arith in
     let split : count * greatest y_power q ≡ (count - 1) * greatest y_power q + greatest y_power q = ap (λ t. t * greatest y_power q) whole ∙ omega arith in
     omega (arith, branch.x)
-
--- the products of the whole search, where d is the greatest power of y
-pub whole_bound : (k d e : ℕ) → 1 ≤ k → search_bound k d (d + 1) e ≤ k * ((d + 1) * (d + 1) * (256 + e * (d + 1)))
-whole_bound k d e l =
-    let base : 256 * 1 ≤ 256 * k = mul-le-mul_left 256 l in
-    omega arith

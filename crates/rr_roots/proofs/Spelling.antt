@@ -6,9 +6,13 @@ use Rattle.root_terms.specs.YRoots.{number_of}
 
 -- more digits make no lower power
 power_more : (n d : ℕ) → 256 ^ n ≤ 256 ^ (d + n)
-power_more n zero = omega arith
+power_more n zero =
+    let place : 0 + n ≡ n = omega arith in
+    let same : 256 ^ (0 + n) ≡ 256 ^ n = ap (λ t. 256 ^ t) place in
+    omega arith
 power_more n (suc d) =
-    let next : 256 ^ (suc d + n) ≡ 256 ^ (d + n) * 256 = pow-suc 256 (d + n) in
+    let place : suc d + n ≡ suc (d + n) = omega arith in
+    let next : 256 ^ (suc d + n) ≡ 256 ^ (d + n) * 256 = ap (λ t. 256 ^ t) place ∙ pow-suc 256 (d + n) in
     omega (arith, power_more n d)
 
 power_low : (n : ℕ) → n ≤ 13 → 256 ^ n ≤ 256 ^ 13
@@ -34,11 +38,13 @@ module _ {F : Type 0} (digit : F → ℕ) (size : ℕ) (below : (x : F) → digi
       let limit : 256 ^ 13 ≡ 2 ^ 104 = refl in
       omega (arith, number_below list, power_low (length list) l)
 
-  -- and so do the numbers of what its end makes
-  pub dropped_fits : (list : List F) (i : ℕ) → length list ≤ 13 → number_of digit size (drop i list) < 2 ^ 104
-  dropped_fits list i l = number_fits (drop i list) (omega (arith, length-drop i list))
-
--- one digit more at the front
-pub number_next : {F : Type 0} (digit : F → ℕ) (size : ℕ) (list : List F) (i : ℕ) (d : F) → i < length list
-    → number_of digit size (drop i list) ≡ digit (get_or list i d) + size * number_of digit size (drop (i + 1) list)
-number_next digit size list i d l = ap (number_of digit size) (drop_more list i d l)
+  -- and so does that of its end with one digit more
+  pub next_fits : (list : List F) (i : ℕ) (c : F) → 0 < i → i ≤ length list → length list ≤ 13 → c ≡ get_or list (i - 1) c
+      → digit c + size * number_of digit size (drop i list) < 2 ^ 104
+  next_fits list i c some inside short e =
+      let place : i - 1 + 1 ≡ i = omega arith in
+      let parts : drop (i - 1) list ≡ c ∷ drop i list =
+      drop_more list (i - 1) c (omega arith) ∙ ap₂ (λ (x : F) (t : List F). x ∷ t) (sym e) (ap (λ n. drop n list) place) in
+      let whole : number_of digit size (drop (i - 1) list) ≡ digit c + size * number_of digit size (drop i list) = ap (number_of digit size) parts in
+      let fits : number_of digit size (drop (i - 1) list) < 2 ^ 104 = number_fits (drop (i - 1) list) (omega (arith, length-drop (i - 1) list)) in
+      omega arith
