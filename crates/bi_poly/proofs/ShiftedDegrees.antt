@@ -47,10 +47,10 @@ module _ {F : Type 0} (R : Ring F) where
         | inl l ↦ ap (λ t. coefficient R q i j ⊗ t) (weight_low R g j h l) ∙ times_nil R (coefficient R q i j)
         | inr l ↦
             ap (λ t. t ⊗ weight R g j h) (no_coefficient q i j (λ n.
-                let most : weigh i j ≤ greatest weigh q = greatest_at weigh q i j n in
-                let least : lesser (i + h) h ≤ weigh i j = less i j h l in
-                let same : lesser (i + h) h ≡ lesser k h = ap (λ t. lesser t h) e in
-                absurd (omega arith)))
+            let most : weigh i j ≤ greatest weigh q = greatest_at weigh q i j n in
+            let least : lesser (i + h) h ≤ weigh i j = less i j h l in
+            let same : lesser (i + h) h ≡ lesser k h = ap (λ t. lesser t h) e in
+            absurd (omega arith)))
             ∙ nil_times R (weight R g j h)
       ]
 
@@ -74,9 +74,9 @@ module _ {F : Type 0} (R : Ring F) where
       pub shifted_x : greatest x_power shifted ≤ greatest x_power q + greatest y_power q
       shifted_x =
           let both : greatest (λ i j. i + j) q ≤ greatest x_power q + greatest y_power q = greatest_least (λ i j. i + j) q (greatest x_power q + greatest y_power q) (λ i j n.
-              let x : i ≤ greatest x_power q = greatest_at x_power q i j n in
-              let y : j ≤ greatest y_power q = greatest_at y_power q i j n in
-              omega arith) in
+          let x : i ≤ greatest x_power q = greatest_at x_power q i j n in
+          let y : j ≤ greatest y_power q = greatest_at y_power q i j n in
+          omega arith) in
           let less : greatest x_power shifted ≤ greatest (λ i j. i + j) q = weighs_less (λ i j. i + j) x_power (λ i j h l. omega arith) in
           omega arith
 

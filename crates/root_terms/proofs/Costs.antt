@@ -1,11 +1,11 @@
 -- How many lists and products the branches of a node take together: each no more than the multiplicity of its constant allows, and all multiplicities together no more than the degree of Q(0, y).
-use Rattle.std.proofs.Common.{◌≡◌, ◌≢◌, inl, inr, ℕ, zero, suc, ◌+◌, ◌-◌, ◌*◌, ◌<◌, ◌≤◌, ◌==◌, if◌then◌else◌, Bool, List, length, refl, sym, ◌∙◌, ap, ap₂, subst, arith}
+use Rattle.std.proofs.Common.{◌≡◌, ◌≢◌, inl, inr, ℕ, zero, suc, ◌+◌, ◌*◌, ◌<◌, ◌≤◌, ◌==◌, if◌then◌else◌, Bool, List, length, refl, sym, ◌∙◌, ap, subst, arith}
 use Rattle.std.proofs.lemmas.Bool.{cases_lt, eq-eqb, ne_eqb}
 use Rattle.std.proofs.Math.Nat.{mul-le-mul_left, mul-le-mul_right}
 use Rattle.std.proofs.Math.Numerals.{add-one}
 use mathlib.Core.Path.{fun_ext}
 use Rattle.algebra.specs.Ring.{Ring, IsField}
-use Rattle.algebra.specs.Series.{product, constant, linear_power, IsBelow}
+use Rattle.algebra.specs.Series.{product, IsBelow}
 use Rattle.algebra.specs.Roots.{HasRoot, total, AreDifferent}
 use Rattle.algebra.specs.Lists.{coefficients, IsListOf}
 use Rattle.algebra.specs.Bivariate.{Bivariate, greatest, y_power}

@@ -1,9 +1,9 @@
 -- The coefficient of x^h y^h in Q(x, x y + g) is that of Q(0, y) about g. So where x^r divides the shift, (y + g)^r divides Q(0, y).
-use Rattle.std.proofs.Common.{◌≡◌, inr, ℕ, zero, suc, ◌+◌, ◌-◌, ◌<◌, ◌≤◌, refl, sym, ◌∙◌, ap, subst, arith}
+use Rattle.std.proofs.Common.{◌≡◌, inr, ℕ, ◌+◌, ◌-◌, ◌<◌, refl, sym, ◌∙◌, ap, arith}
 use Rattle.algebra.specs.Ring.{Ring, IsField}
 use Rattle.algebra.specs.Series.{constant, value, IsBelow, IsFrom}
 use Rattle.algebra.specs.Roots.{HasRoot}
-use Rattle.algebra.specs.Bivariate.{Bivariate, coefficient, greatest, x_power, y_power, shift_of}
+use Rattle.algebra.specs.Bivariate.{Bivariate, greatest, x_power, y_power, shift_of}
 use Rattle.algebra.proofs.Series.{series}
 use Rattle.algebra.proofs.Nested.{value_nested, below_more}
 use Rattle.algebra.proofs.Shift.{shifted, shifted_value, shifted_more}

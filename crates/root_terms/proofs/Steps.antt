@@ -1,5 +1,5 @@
 -- What the two steps of the search, the shift and the division by a power of x, make of y-roots.
-use Rattle.std.proofs.Common.{◌≡◌, ◌≢◌, inl, inr, ℕ, zero, suc, ◌+◌, ◌-◌, ◌<◌, ◌≤◌, None, Some, refl, sym, ◌∙◌, ap, ap₂, subst, arith}
+use Rattle.std.proofs.Common.{◌≡◌, ◌≢◌, inl, inr, ℕ, zero, suc, ◌+◌, ◌-◌, ◌<◌, ◌≤◌, None, Some, refl, sym, ◌∙◌, ap, arith}
 use Rattle.std.specs.declared.option.Option.{Option}
 use Rattle.std.specs.Option.{unwrap_or}
 use Rattle.std.specs.FinMap.{get}
@@ -11,7 +11,7 @@ use Rattle.algebra.specs.Sums.{power}
 use Rattle.algebra.specs.Series.{product, constant, linear, value, IsBelow}
 use Rattle.algebra.specs.Bivariate.{Bivariate, coefficient, greatest, x_power, y_power, IsWithin, raised, substituted, shift_of}
 use Rattle.algebra.proofs.Laws.{ring}
-use Rattle.algebra.proofs.Series.{product_first, product_zero, product_comm, series}
+use Rattle.algebra.proofs.Series.{product_first, product_zero, series}
 use Rattle.algebra.proofs.Nested.{nested, itself, nested_none, nested_next, nested_scaled, value_nested}
 use Rattle.algebra.proofs.Division.{linear_first, linear_next}
 use Rattle.algebra.proofs.Entries.{within}

@@ -1,22 +1,21 @@
 -- A shift by a root of Q(0, y), divided by its greatest power of x, is a branch.
-use Rattle.std.proofs.Common.{◌≡◌, ◌≢◌, inl, inr, ℕ, zero, suc, ◌+◌, ◌-◌, ◌*◌, ◌<◌, ◌≤◌, None, Some, refl, sym, ◌∙◌, ap, subst, arith}
+use Rattle.std.proofs.Common.{◌≡◌, ◌≢◌, inl, inr, ℕ, zero, suc, ◌+◌, ◌*◌, ◌<◌, ◌≤◌, None, Some, refl, sym, ◌∙◌, ap, subst, arith}
 use Rattle.std.specs.declared.option.Option.{Option}
 use Rattle.std.specs.Option.{unwrap_or}
 use Rattle.std.specs.FinMap.{get, empty, get-empty}
 use Rattle.std.proofs.lemmas.Bool.{cases_lt}
 use Rattle.std.proofs.lemmas.Nat.{mul-le}
 use Rattle.std.proofs.Math.Numerals.{add-one}
-use Rattle.std.proofs.Math.Nat.{mul-le-mul_left, mul-le-mul_right}
 use mathlib.Core.Path.{fun_ext}
 use Rattle.algebra.specs.Ring.{Ring, IsField}
 use Rattle.algebra.specs.Series.{value}
 use Rattle.algebra.specs.Bivariate.{Bivariate, IsProper, coefficient, greatest, pair_cmp, weight_by, x_power, y_power, shift_of}
-use Rattle.algebra.proofs.Entries.{coefficient_past, greatest_at, greatest_least, greatest_reached, within}
+use Rattle.algebra.proofs.Entries.{coefficient_past, greatest_at, greatest_least, within}
 use Rattle.bi_poly.specs.Results.{kept, IsMapOf, IsPowerOfX, IsStripped, shift_bound}
 use Rattle.bi_poly.proofs.Cells.{kept_nil}
 use Rattle.bi_poly.proofs.ShiftedDegrees.{coefficient_of_map, shifted_x, shifted_y, shifted_weight}
-use Rattle.root_terms.specs.YRoots.{IsYRoot, led_by, AreYRootLists}
-use Rattle.root_terms.specs.Branches.{at_zero, IsReduced, IsNarrow, IsBranch, IsReduction}
+use Rattle.root_terms.specs.YRoots.{IsYRoot, led_by}
+use Rattle.root_terms.specs.Branches.{at_zero, IsReduced, IsBranch, IsReduction}
 use Rattle.root_terms.proofs.Shifts.{shift_low, shift_first, root_of_shift}
 use Rattle.root_terms.proofs.Steps.{along_shift, no_entry, root_of_stripped, stripped_root}
 

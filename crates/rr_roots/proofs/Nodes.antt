@@ -6,13 +6,13 @@ use Rattle.std.proofs.Math.Pow.{pow_mono}
 use Rattle.std.proofs.Math.Nat.{mul-le-mul_left, mul-le-mul_right}
 use mathlib.Core.Path.{fun_ext}
 use Rattle.algebra.specs.Ring.{Ring, IsField}
-use Rattle.algebra.specs.Series.{value, IsBelow}
+use Rattle.algebra.specs.Series.{value}
 use Rattle.algebra.specs.Roots.{HasRoot, AreDifferent}
 use Rattle.algebra.specs.Lists.{coefficients, IsListOf}
 use Rattle.algebra.specs.Bivariate.{Bivariate, coefficient, greatest, weight_by, x_power, y_power}
 use Rattle.algebra.proofs.Nested.{value_more}
 use Rattle.algebra.proofs.CoefficientLists.{coefficients_below}
-use Rattle.uni_poly.specs.Roots.{IsRoot, IsRootList}
+use Rattle.uni_poly.specs.Roots.{IsRootList}
 use Rattle.root_terms.specs.YRoots.{IsYRoot, AreYRootLists}
 use Rattle.root_terms.specs.Branches.{at_zero, IsReduced, IsNarrow, IsBranch, search_bound}
 use Rattle.root_terms.proofs.Shifts.{at_zero_below}

@@ -1,12 +1,12 @@
 -- From the curve that is searched to the one that was asked about.
-use Rattle.std.proofs.Common.{◌≡◌, ◌≢◌, inl, inr, ℕ, ◌+◌, ◌-◌, ◌*◌, ◌<◌, ◌≤◌, List, length, All, Result, Ok, Err, IfOk, sym, ◌∙◌, ap, arith}
+use Rattle.std.proofs.Common.{◌≡◌, ◌≢◌, inl, inr, ℕ, ◌+◌, ◌-◌, ◌*◌, ◌<◌, ◌≤◌, List, length, All, Result, Ok, Err, IfOk, arith}
 use Rattle.std.specs.FinMap.{empty}
 use Rattle.std.proofs.lemmas.Bool.{cases_lt}
 use Rattle.std.proofs.lemmas.List.Elements.{All-weaker}
-use Rattle.std.proofs.Math.Nat.{mul-le-mul_left, mul-le-mul_right}
+use Rattle.std.proofs.Math.Nat.{mul-le-mul_right}
 use Rattle.algebra.specs.Ring.{Ring}
 use Rattle.algebra.specs.Lists.{coefficients}
-use Rattle.algebra.specs.Bivariate.{Bivariate, IsWithin, coefficient, greatest, weight_by, x_power, y_power}
+use Rattle.algebra.specs.Bivariate.{Bivariate, IsWithin, greatest, weight_by, x_power, y_power}
 use Rattle.algebra.proofs.Entries.{greatest_reached, coefficient_past, within}
 use Rattle.root_terms.specs.YRoots.{IsYRoot, AreYRootLists}
 use Rattle.root_terms.specs.Branches.{IsReduction, IsNarrow, search_bound}

@@ -1,4 +1,4 @@
-use Rattle.std.proofs.Common.{◌≡◌, ◌≤◌, length, ◌∙◌, ap, arith}
+use Rattle.std.proofs.Common.{◌≤◌, length, ◌∙◌, ap, arith}
 use Rattle.algebra.proofs.CoefficientLists.{coefficients_below, trimmed_length}
 use Rattle.rr_roots.proofs.numbers.entry_of.Goals as goal
 

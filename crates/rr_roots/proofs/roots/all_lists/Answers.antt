@@ -1,5 +1,5 @@
-use Rattle.std.proofs.Common.{◌≡◌, ℕ, ◌+◌, ◌-◌, ◌*◌, ◌<◌, ◌≤◌, List, length, arith}
-use Rattle.algebra.specs.Bivariate.{Bivariate, greatest, weight_by, x_power, y_power}
+use Rattle.std.proofs.Common.{◌-◌, ◌≤◌, arith}
+use Rattle.algebra.specs.Bivariate.{greatest, x_power, y_power}
 use Rattle.root_terms.specs.YRoots.{AreYRootLists}
 use Rattle.root_terms.specs.Branches.{IsReduction}
 use Rattle.rr_roots.proofs.Tops.{if_ok, degree_low, room, same_lists, narrow, whole_products}

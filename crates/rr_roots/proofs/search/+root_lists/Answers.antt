@@ -1,10 +1,9 @@
-use Rattle.std.proofs.Common.{◌≡◌, ℕ, ◌+◌, ◌-◌, ◌*◌, ◌<◌, ◌≤◌, List, [], ◌∷◌, ◌++◌, map, length, sym, ◌∙◌, ap, subst, arith}
+use Rattle.std.proofs.Common.{◌≡◌, ℕ, ◌+◌, ◌-◌, ◌*◌, ◌<◌, ◌≤◌, List, ◌∷◌, map, length, sym, ◌∙◌, ap, subst, arith}
 use Rattle.std.proofs.lemmas.List.{length-append, length-map}
 use Rattle.algebra.specs.Series.{value}
 use Rattle.algebra.specs.Lists.{coefficients}
-use Rattle.algebra.specs.Bivariate.{Bivariate, greatest, weight_by, x_power, y_power}
-use Rattle.root_terms.specs.Branches.{at_zero, IsBranch, search_bound}
-use Rattle.root_terms.specs.YRoots.{AreYRootLists}
+use Rattle.algebra.specs.Bivariate.{Bivariate, greatest, weight_by, y_power}
+use Rattle.root_terms.specs.Branches.{at_zero}
 use Rattle.root_terms.proofs.Searches.{AreFound, none_found}
 use Rattle.root_terms.proofs.Costs.{IsSpent, none_spent}
 use Rattle.rr_roots.proofs.Branching.{shift_cost}

@@ -1,4 +1,4 @@
-use Rattle.std.proofs.Common.{◌≡◌, ℕ, ◌+◌, ◌-◌, ◌*◌, ◌<◌, length}
+use Rattle.std.proofs.Common.{ℕ, ◌-◌, ◌*◌, ◌<◌, length}
 use Rattle.algebra.specs.Bivariate.{greatest, weight_by, y_power}
 use Rattle.root_terms.proofs.Searches.{AreFound}
 use Rattle.root_terms.proofs.Costs.{IsSpent}

@@ -1,4 +1,4 @@
-use Rattle.std.proofs.Common.{◌≡◌, List, [], ◌∷◌, ◌++◌, refl, sym, ap, subst, ◌∙◌}
+use Rattle.std.proofs.Common.{List, [], ◌∷◌, ◌++◌, refl, sym, ap, subst, ◌∙◌}
 use Rattle.root_terms.specs.YRoots.{AreYRootLists}
 use Rattle.rr_roots.proofs.Nodes.{last_list, no_last_list}
 use Rattle.rr_roots.proofs.search.last_lists.Goals as goal
