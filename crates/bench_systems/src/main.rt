@@ -116,11 +116,11 @@ fn one_round<F: Field, P: Ledger>(
             let last = matrix.get(job.rows - 1, job.columns - 1);
             Ok(with_number(sum, last.to() as u64))
         }
-        Work::Kernel => match matrix.kernel(prods)? {
+        Work::Kernel => match matrix.kernel(alloc, prods)? {
             Some(vector) => Ok(with_elements(sum, vector.as_slice())),
             None => Ok(with_number(sum, 0)),
         },
-        Work::Rank => Ok(with_number(sum, matrix.rank(prods)? as u64)),
+        Work::Rank => Ok(with_number(sum, matrix.rank(alloc, prods)? as u64)),
     }
 }
 

@@ -3,7 +3,7 @@
 ghost use Rattle.std.specs.Prelude.{◌≡◌, ◌↔◌, ◌+◌, ◌*◌, ◌<◌, ◌≤◌, length, map, replicate, set, IfOk, IfSome, IsNone, slice_index_or, []};
 ghost use Rattle.algebra.specs.Lists.{coefficients};
 ghost use Rattle.system_terms.specs.Systems.{IsRank, IsZero, OnlyZeroSolves, Solves};
-ghost use Rattle.linear_solve.specs.Tables.{entries};
+ghost use Rattle.linear_solve.specs.Tables.{HaveLength, entries};
 
 use crate::elimination::eliminate;
 use crate::solution::{free_column, solution};
@@ -16,7 +16,6 @@ use std::marker::Model;
 /// as the number of its columns and the list of its rows. Rows and columns are counted from 0.
 #[derive(Drop)]
 pub struct Matrix<F: Field> {
-    alloc: Global,
     columns: usize,
     rows: Vec<Vec<F>>,
 }
@@ -46,10 +45,23 @@ impl<F: Field> Matrix<F> {
             lines.push(zero_row(alloc, cols)?)?;
         }
         Ok(Matrix {
-            alloc,
             columns: cols,
             rows: lines,
         })
+    }
+
+    /// The matrix with these rows, of which each has one entry for each column.
+    pub fn from_rows(cols: usize, rows: Vec<Vec<F>>) -> Matrix<F>
+        requires rows { 1 ≤ length rows.items }
+        requires columns { 1 ≤ cols }
+        requires few { length rows.items * cols ≤ 150000000 }
+        requires even { HaveLength cols (map (λ row. row.items) rows.items) }
+        ensures { result ≡ record { columns = cols; rows = map (λ row. row.items) rows.items } }
+    {
+        Matrix {
+            columns: cols,
+            rows,
+        }
     }
 
     /// Puts the value in the row and the column in place of the entry there.
@@ -72,7 +84,7 @@ impl<F: Field> Matrix<F> {
     }
 
     /// A vector that every row sends to zero: one that is not zero, where there is one. The only error is want of memory.
-    pub fn kernel<P: Ledger>(self, prods: &mut Steps<P>) -> Result<Option<Elements<F>>, Memory>
+    pub fn kernel<P: Ledger>(self, alloc: Global, prods: &mut Steps<P>) -> Result<Option<Elements<F>>, Memory>
         ensures length { IfOk result (λ found. IfSome found (λ x. length x ≡ self.columns)) }
         ensures solves { IfOk result (λ found. IfSome found (λ x.
             Solves F.ring (length self.rows) self.columns (entries F.ring self.rows) (coefficients F.ring x))) }
@@ -84,7 +96,6 @@ impl<F: Field> Matrix<F> {
         ensures products { prods.new ≤ prods.old + 3 * (length self.rows * length self.rows) * self.columns }
     {
         let Matrix {
-            alloc,
             columns,
             rows,
         } = self;
@@ -97,13 +108,12 @@ impl<F: Field> Matrix<F> {
     }
 
     /// The rank: how many rows the longest list of independent rows has. The only error is want of memory.
-    pub fn rank<P: Ledger>(self, prods: &mut Steps<P>) -> Result<usize, Memory>
+    pub fn rank<P: Ledger>(self, alloc: Global, prods: &mut Steps<P>) -> Result<usize, Memory>
         ensures rank { IfOk result (λ rank.
             IsRank F.ring (length self.rows) self.columns (entries F.ring self.rows) rank) }
         ensures products { prods.new ≤ prods.old + 3 * (length self.rows * length self.rows) * self.columns }
     {
         let Matrix {
-            alloc,
             columns,
             rows,
         } = self;

@@ -46,7 +46,7 @@ fn has_kernel<F: Field, P: Ledger>(
     numbers: &[u8],
     prods: &mut Steps<P>,
 ) -> Option<bool> {
-    match matrix_of::<F>(alloc, columns, entries)?.kernel(prods).ok()? {
+    match matrix_of::<F>(alloc, columns, entries)?.kernel(alloc, prods).ok()? {
         Some(vector) => is_multiple(&vector, numbers, prods),
         None => Some(numbers.is_empty()),
     }
@@ -59,7 +59,7 @@ fn rank_of<F: Field, P: Ledger>(
     entries: &[u8],
     prods: &mut Steps<P>,
 ) -> Option<usize> {
-    matrix_of::<F>(alloc, columns, entries)?.rank(prods).ok()
+    matrix_of::<F>(alloc, columns, entries)?.rank(alloc, prods).ok()
 }
 
 fn known_kernels<F: Field, P: Ledger>(rt: &impl Abort, alloc: Global, blank: Blank)

@@ -1,0 +1,3 @@
+pub mod Counted
+pub mod Degrees
+pub mod Roots

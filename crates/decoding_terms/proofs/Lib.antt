@@ -1,0 +1,6 @@
+pub mod Examples
+pub mod Existence
+pub mod LeastNumbers
+pub mod Sizes
+pub mod Squares
+pub mod Terms

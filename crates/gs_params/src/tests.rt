@@ -1,0 +1,28 @@
+//! Parameters against a table that was computed apart.
+
+ghost use Rattle.std.specs.Prelude.{◌≡◌};
+
+use crate::{ParamError, params};
+
+// What `params` gives, as numbers; none where it refuses.
+fn numbers(k: u32, c: u32, r: u32) -> Option<[u32; 7]>
+    requires least_k { 2 ≤ k }
+    requires most_k { k ≤ 13 }
+    requires points { r ≤ 1024 }
+{
+    let p = params(k, c, r).ok()?;
+    Some([p.w, p.r, p.t, p.s, p.e, p.rows, p.cols])
+}
+
+#[test]
+fn chooses_parameters(rt: HostRuntime) {
+    assert_eq!(rt; numbers(5, 3, 39), Some([4, 39, 13, 12, 155, 3042, 3081]));
+    assert_eq!(rt; numbers(3, 6, 78), Some([2, 78, 13, 12, 156, 6084, 6162]));
+    assert_eq!(rt; numbers(5, 3, 200), Some([4, 200, 67, 1, 39, 200, 210]));
+}
+
+#[test]
+fn refuses_bounds_and_too_few_points(rt: HostRuntime) {
+    assert_eq!(rt; params(2, 3, 9), Err(ParamError::TooFew(9)));
+    assert_eq!(rt; params(3, 7, 100), Err(ParamError::BadBound));
+}
