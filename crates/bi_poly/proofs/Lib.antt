@@ -5,3 +5,4 @@ pub mod Adding
 pub mod RowDerivatives
 pub mod SubstitutedRows
 pub mod ShiftedRows
+pub mod ShiftedDegrees

@@ -1,6 +1,6 @@
 //! Polynomials in two variables.
 
-ghost use Rattle.std.specs.Prelude.{◌≡◌, ◌<◌, OnOk, OnErr};
+ghost use Rattle.std.specs.Prelude.{◌≡◌, ◌<◌, IfOk, OnOk, OnErr};
 ghost use Rattle.std.specs.FinMap.{empty};
 ghost use Rattle.algebra.specs.Bivariate.{IsProper, IsWithin, coefficient};
 ghost use Rattle.bi_poly.specs.Results.{with_coefficient};
@@ -44,6 +44,20 @@ impl<F: Field> BiPoly<F> {
             alloc,
             rows: Vec::new(alloc),
         }
+    }
+
+    /// The same polynomial in memory of its own. The only error is want of memory.
+    pub fn copy(&self) -> Result<BiPoly<F>, Memory>
+        ensures { IfOk result (λ copy. copy ≡ self.now) }
+    {
+        let mut rows = Vec::with_capacity(self.alloc, self.rows.len())?;
+        'rows: for j in 0..self.rows.len() {
+            rows.push(self.rows[j].copy(self.alloc)?)?;
+        }
+        Ok(BiPoly {
+            alloc: self.alloc,
+            rows,
+        })
     }
 
     /// Puts the value in place of the coefficient of x^i y^j. The only error is want of memory.

@@ -5,6 +5,7 @@
 mod bivariate;
 mod degrees;
 mod derivatives;
+mod laws;
 mod multiples;
 mod row;
 mod rows;
@@ -15,3 +16,4 @@ mod substitution;
 mod tests;
 
 pub use bivariate::BiPoly;
+pub use laws::{degrees_of_shifts, laws_of_maps};

@@ -38,6 +38,15 @@ impl<F: Field> Row<F> {
         Row { coefs }
     }
 
+    // The same row in memory of its own.
+    pub(crate) fn copy(&self, alloc: Global) -> Result<Row<F>, AllocError>
+        ensures { IfOk result (λ row. row ≡ self.now) }
+    {
+        let mut coefs = Vec::with_capacity(alloc, self.coefs.len())?;
+        coefs.extend_from_slice(self.coefs.as_slice())?;
+        Ok(Row { coefs })
+    }
+
     pub(crate) fn as_slice(&self) -> &[F]
         ensures { result.now ≡ self.now }
     {

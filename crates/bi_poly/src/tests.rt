@@ -325,3 +325,16 @@ fn is_a_polynomial_in_y_at_zero(rt: HostRuntime) {
     assert!(&rt; at_zero(alloc, FIRST, &[0, 0, 9]) == Some(true));
     assert!(&rt; at_zero(alloc, SECOND, &[]) == Some(true));
 }
+
+/// Whether a copy keeps these terms when the first of the two changes.
+fn copies(alloc: Global, terms: &[Term]) -> Option<bool> {
+    let mut whole = polynomial::<Gf<4>>(alloc, terms)?;
+    let copy = whole.copy().ok()?;
+    whole.set(0, 0, Gf::<4>::one()).ok()?;
+    has(alloc, &copy, terms)
+}
+
+#[test]
+fn copies_its_terms(rt: HostRuntime) {
+    assert!(&rt; copies(rt.alloc(), SECOND) == Some(true));
+}

@@ -1,0 +1,6 @@
+pub mod PointsMade
+pub mod Messages
+pub mod Kept
+pub mod Bounds
+pub mod Completeness
+pub mod Refusals

@@ -1,0 +1,76 @@
+-- What the decoder answers where there are no parameters, and where there are.
+use Rattle.std.proofs.Common.{◌≡◌, ◌≢◌, inl, inr, ℕ, ◌-◌, ◌*◌, ◌<◌, ◌≤◌, Bool, true, false, ◌&&◌, nat_le, nat_lt, if◌then◌else◌, List, Option, None, Some, Result, Ok, Err, length, refl, sym, ◌∙◌, ap, arith}
+use Rattle.std.specs.Result.{result_err}
+use Rattle.std.proofs.lemmas.Bool.{cases_lt}
+use Rattle.std.proofs.lemmas.Bool.Decides.{nat_tests}
+use Rattle.code_terms.specs.Words.{readable}
+use Rattle.decoding_terms.specs.Parameters.{is_allowed_bound}
+use Rattle.decoder_terms.specs.Decoding.{decoded, least_readable}
+use Rattle.gs_params.specs.declared.parameters.ParamError.{ParamError}
+use Rattle.gs_params.specs.declared.parameters.ParamError.TheVariants as chosen
+use Rattle.gs_params.specs.Refusals.{refusal_of}
+use Rattle.list_decode.specs.Refusals.{refused_as}
+use Rattle.list_decode.specs.Answers.{decoding}
+
+pub allowed_bound : (k c : ℕ) → is_allowed_bound k c ≡ true → (1 ≤ c) × (c ≤ 8) × (c * (k - 1) ≤ 12)
+allowed_bound k c h = (first h, second h, third h)
+  where
+    first : is_allowed_bound k c ≡ true → 1 ≤ c
+    first e = grind (arith, nat_tests)
+
+    second : is_allowed_bound k c ≡ true → c ≤ 8
+    second e = grind (arith, nat_tests)
+
+    third : is_allowed_bound k c ≡ true → c * (k - 1) ≤ 12
+    third e = grind (arith, nat_tests)
+
+module _ (m k c : ℕ) (word : List (Option ℕ)) where
+  -- parameters were refused
+  pub refused : (why : ParamError) → Some why ≡ refusal_of k c (readable word) → decoding m k word c ≡ Err (refused_as why)
+  refused why h =
+      elim (is_allowed_bound k c) as (λ (a : Bool).
+      Some why ≡ (if a then (if nat_lt (c * c * (k - 1)) (readable word) then None else Some (chosen.TooFew (readable word))) else Some chosen.BadBound)
+      → (if a then (if nat_lt (least_readable k c) (readable word) then Ok (decoded m k word c) else Err (refused_as (chosen.TooFew (readable word)))) else Err (refused_as chosen.BadBound)) ≡ Err (refused_as why)) [
+        | true ↦
+            elim (nat_lt (c * c * (k - 1)) (readable word)) as (λ (b : Bool). Some why ≡ (if b then None else Some (chosen.TooFew (readable word)))
+            → (if b then Ok (decoded m k word c) else Err (refused_as (chosen.TooFew (readable word)))) ≡ Err (refused_as why)) [
+              | true ↦ λ e. absurd (some_none e)
+              | false ↦ λ e. ap (λ t. Err (refused_as t)) (sym (same why (chosen.TooFew (readable word)) e))
+            ]
+        | false ↦ λ e. ap (λ t. Err (refused_as t)) (sym (same why chosen.BadBound e))
+      ] h
+    where
+      some_none : Some why ≡ None → ⊥
+      some_none e = cc
+
+      same : (x y : ParamError) → Some x ≡ Some y → x ≡ y
+      same x y e = cc
+
+  -- parameters were chosen
+  pub granted : None ≡ refusal_of k c (readable word) → (is_allowed_bound k c ≡ true) × (nat_lt (c * c * (k - 1)) (readable word) ≡ true)
+  granted h =
+      elim (is_allowed_bound k c) as (λ (a : Bool).
+      None ≡ (if a then (if nat_lt (c * c * (k - 1)) (readable word) then None else Some (chosen.TooFew (readable word))) else Some chosen.BadBound)
+      → (a ≡ true) × (nat_lt (c * c * (k - 1)) (readable word) ≡ true)) [
+        | true ↦
+            elim (nat_lt (c * c * (k - 1)) (readable word)) as (λ (b : Bool). None ≡ (if b then None else Some (chosen.TooFew (readable word))) → (true ≡ true) × (b ≡ true)) [
+              | true ↦ λ e. (refl, refl)
+              | false ↦ λ e. absurd (none_some (chosen.TooFew (readable word)) e)
+            ]
+        | false ↦ λ e. absurd (none_some chosen.BadBound e)
+      ] h
+    where
+      none_some : (x : ParamError) → None ≡ Some x → ⊥
+      none_some x e = cc
+
+  pub answered : None ≡ refusal_of k c (readable word) → decoding m k word c ≡ Ok (decoded m k word c)
+  answered h =
+      let both = granted h in
+      ap (λ (a : Bool). if a then (if nat_lt (least_readable k c) (readable word) then Ok (decoded m k word c) else Err (refused_as (chosen.TooFew (readable word)))) else Err (refused_as chosen.BadBound)) both.0
+      ∙ ap (λ (b : Bool). if b then Ok (decoded m k word c) else Err (refused_as (chosen.TooFew (readable word)))) both.1
+
+  pub some_readable : None ≡ refusal_of k c (readable word) → 1 ≤ readable word
+  some_readable h = above (c * c * (k - 1)) (readable word) (granted h).1
+    where
+      above : (a b : ℕ) → nat_lt a b ≡ true → 1 ≤ b
+      above a b e = grind (arith, nat_tests)

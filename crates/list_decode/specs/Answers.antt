@@ -1,0 +1,25 @@
+-- What a decoder answers.
+-- Source: this project's own.
+use Rattle.std.specs.Prelude.{◌≡◌, ℕ, ◌+◌, ◌-◌, ◌<◌, ◌≤◌, nat_lt, if◌then◌else◌, List, Option, Result, Ok, Err}
+use Rattle.code_terms.specs.Words.{readable}
+use Rattle.decoding_terms.specs.Parameters.{AreParameters, is_allowed_bound}
+use Rattle.decoder_terms.specs.Decoding.{decoded, least_readable}
+use Rattle.gs_params.specs.declared.parameters.Params.{Params}
+use Rattle.list_decode.specs.declared.decode_error.DecodeError.{DecodeError}
+use Rattle.list_decode.specs.declared.decode_error.DecodeError.TheVariants.{BadBound, TooFew, Memory}
+
+-- the messages that meet the threshold; refused are first a bound that codes of this dimension don't allow, and then too few readable places
+abbrev pub decoding : (m k : ℕ) → List (Option ℕ) → ℕ → Result (List ℕ) DecodeError
+decoding m k word c =
+    if is_allowed_bound k c then (if nat_lt (least_readable k c) (readable word) then Ok (decoded m k word c) else Err (TooFew (readable word))) else Err BadBound
+
+-- what is wanted is answered; only want of memory may come in place of it
+abbrev pub DecodesAs : Result (List ℕ) DecodeError → Result (List ℕ) DecodeError → Type 0
+DecodesAs (Ok messages) wanted = wanted ≡ Ok messages
+DecodesAs (Err BadBound) wanted = wanted ≡ Err BadBound
+DecodesAs (Err (TooFew r)) wanted = wanted ≡ Err (TooFew r)
+DecodesAs (Err Memory) wanted = Unit {0}
+
+-- with these parameters, a curve through r points costs at most so many products
+abbrev pub CostsAtMost : (Params → ℕ) → (k c r most : ℕ) → Type 0
+CostsAtMost cost k c r most = (p : Params) → p.w ≡ k - 1 → p.r ≡ r → AreParameters (k - 1) c r p.t p.s p.e → cost p ≤ most

@@ -1,0 +1,77 @@
+//! The y-roots of a curve as messages, of which those stay that agree with enough of the word.
+
+ghost use Rattle.std.specs.Prelude.{◌≡◌, ℕ, ◌+◌, ◌*◌, ◌^◌, ◌<◌, ◌≤◌, [], ◌∷◌, ◌++◌, All, IfOk, OnOk, filter, if◌then◌else◌, length, map, nat_le};
+ghost use Rattle.code_terms.specs.Symbols.{packed};
+ghost use Rattle.code_terms.specs.Words.{agreement_of, readable};
+ghost use Rattle.decoder_terms.specs.Decoding.{meets_threshold};
+
+use gf2m::{Elements, Field, Items, Ledger, Steps};
+use lists::Memory;
+use rs_code::{Code, Message, Word};
+use std::alloc::{AllocError, Global};
+use uni_poly::Poly;
+
+/// The messages with these coefficients that meet the threshold, in the same order.
+pub fn kept<F: Field, P: Ledger>(
+    alloc: Global,
+    code: &Code<F>,
+    word: &Word,
+    c: u32,
+    roots: &[Poly<F>],
+    prods: &mut Steps<P>,
+) -> Result<Vec<Message>, Memory>
+    requires length { length word.now ≡ code.now.places }
+    requires bound { c ≤ 8 }
+    requires short { All (λ root. length root ≤ code.now.dimension) roots.now }
+    ensures value { IfOk result (λ messages. messages.items ≡ filter (meets_threshold F.BITS code.now.dimension word.now c)
+        (map (λ root. packed F.BITS (map F.number root)) roots.now)) }
+    ensures products { prods.new ≤ prods.old + length roots.now * (code.now.places * code.now.dimension) }
+{
+    let mut messages = Vec::new(alloc);
+    'roots: for i in 0..roots.len() {
+        let message = message_of(alloc, code, &roots[i])?;
+        let keeps = meets(code, word, c, message, prods);
+        keep(&mut messages, message, keeps)?;
+    }
+    Ok(messages)
+}
+
+// Puts the message behind the others where it is one of them.
+fn keep(messages: &mut Vec<Message>, message: Message, keeps: bool) -> Result<(), AllocError>
+    ensures { OnOk result (messages.new.items ≡ messages.old.items ++ (if keeps then message ∷ [] else [])) }
+{
+    if keeps {
+        messages.push(message)?;
+    }
+    Ok(())
+}
+
+// The message with these coefficients.
+fn message_of<F: Field>(alloc: Global, code: &Code<F>, root: &Poly<F>) -> Result<Message, Memory>
+    requires { length root.now ≤ code.now.dimension }
+    ensures value { IfOk result (λ message. message ≡ packed F.BITS (map F.number root.now)) }
+    ensures small { IfOk result (λ message. message < 2 ^ (F.BITS * code.now.dimension)) }
+{
+    let mut coefs = Vec::with_capacity(alloc, root.as_slice().len())?;
+    coefs.extend_from_slice(root.as_slice())?;
+    let coefs: Elements<F> = Items::over(coefs);
+    Ok(code.pack(&coefs))
+}
+
+// Whether the message agrees with at least a c-th part of the readable places.
+fn meets<F: Field, P: Ledger>(
+    code: &Code<F>,
+    word: &Word,
+    c: u32,
+    message: Message,
+    prods: &mut Steps<P>,
+) -> bool
+    requires length { length word.now ≡ code.now.places }
+    requires bound { c ≤ 8 }
+    requires message { message < 2 ^ (F.BITS * code.now.dimension) }
+    ensures value { result ≡ meets_threshold F.BITS code.now.dimension word.now c message }
+    ensures products { prods.new ≤ prods.old + code.now.places * code.now.dimension }
+{
+    let agreement = code.agreement(message, word, prods) as u64;
+    word.readable() as u64 <= agreement * c as u64
+}

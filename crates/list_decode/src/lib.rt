@@ -1,0 +1,12 @@
+//! List decoding of Reed-Solomon codes: the messages that agree with at least a c-th part of a word's readable places.
+#![tactic(auto)]
+
+mod candidates;
+mod decode_error;
+mod decoder;
+mod points;
+#[cfg(test)]
+mod tests;
+
+pub use decode_error::DecodeError;
+pub use decoder::decode;

@@ -1,0 +1,3 @@
+pub mod YRoots
+pub mod Branches
+pub mod Entries

@@ -1,0 +1,4 @@
+pub mod Branching
+pub mod Nodes
+pub mod Tops
+pub mod Spelling

@@ -1,0 +1,11 @@
+//! The y-roots of a polynomial in two variables: all polynomials f of low degree with Q(x, f(x)) = 0.
+#![tactic(auto)]
+
+mod branches;
+mod numbers;
+mod roots;
+mod search;
+#[cfg(test)]
+mod tests;
+
+pub use roots::poly_roots;
