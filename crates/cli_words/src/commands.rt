@@ -9,7 +9,7 @@ ghost use Rattle.text_terms.specs.Numbers.{number_of};
 ghost use Rattle.outcome_terms.specs.Commands.{named as blob_name, request_of, make_from, make_of, enrol_of, accuse_of};
 ghost use Rattle.cli_words.specs.Requests.{request, HasNames};
 
-use shelf_io::{is_name, read_number};
+use texts::{is_name, read_number};
 
 /// A command of the program with its arguments, which are borrowed from the words.
 ///

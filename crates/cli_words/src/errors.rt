@@ -4,7 +4,7 @@ ghost use Rattle.std.specs.Prelude.{◌≡◌, ◌≢◌, IfOk};
 ghost use Rattle.outcome_terms.specs.Statuses.{line_of};
 
 use outcome_terms::Status;
-use shelf_io::Memory;
+use lists::Memory;
 use std::alloc::Global;
 
 /// The error line of a status: `error`, its number and the detail, with a line feed. The only error is want of memory.

@@ -12,7 +12,7 @@ use crate::errors::{EnrolError, RegisterReadError};
 use crate::register::Register;
 use crate::rule::{Rule, are_bits, is_dimension, is_multiplier, message_count};
 use register_terms::{RegisterFault, RegisterKind};
-use shelf_io::read_number;
+use texts::read_number;
 use std::alloc::Global;
 use std::str;
 

@@ -15,7 +15,7 @@ use crate::licensee::Licensee;
 use crate::rule::Rule;
 use code_terms::Message;
 use lists::Text;
-use shelf_io::is_plain;
+use texts::is_plain;
 use std::alloc::Global;
 use std::collections::HashMap;
 use std::marker::Model;

@@ -10,7 +10,7 @@ use crate::licensee::Licensee;
 use crate::register::Register;
 use crate::rule::Rule;
 use lists::Memory;
-use shelf_io::number_text;
+use texts::number_text;
 use std::alloc::Global;
 use steps::{Ledger, Steps};
 

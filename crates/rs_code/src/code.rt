@@ -10,8 +10,7 @@ use crate::code_error::CodeError;
 use crate::word::{Word, append};
 use code_terms::Message;
 use gf2m::{Elements, Field, Ledger, Steps};
-use lists::Items;
-use shelf_io::Memory;
+use lists::{Items, Memory};
 use std::alloc::{AllocError, Global};
 use std::marker::{Model, PhantomData};
 

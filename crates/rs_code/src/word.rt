@@ -4,7 +4,7 @@ ghost use Rattle.std.specs.Prelude.{◌≡◌, ◌<◌, ◌≤◌, [], ◌∷◌
 ghost use Rattle.code_terms.specs.Words.{readable, slot_at};
 ghost use Rattle.rs_code.specs.WordShape.{IsWord};
 
-use shelf_io::Memory;
+use lists::Memory;
 use std::alloc::{AllocError, Global};
 use std::marker::Model;
 

@@ -8,7 +8,7 @@ ghost use Rattle.rs_code.specs.Reading.{ReadsWord};
 use crate::word::Word;
 use crate::word_error::WordError;
 use code_terms::WordFault;
-use shelf_io::read_number;
+use texts::read_number;
 use std::alloc::Global;
 use std::str;
 

@@ -1,4 +1,3 @@
-pub mod Numerals
 pub mod Fronts
 pub mod BlobLists
 pub mod KnownBytes

@@ -9,8 +9,6 @@ mod folder_shelf;
 mod mem_shelf;
 mod mem_sink;
 mod name_buffer;
-mod names;
-mod numbers;
 mod shelf;
 mod sink;
 mod std_sink;
@@ -20,11 +18,9 @@ mod whole;
 
 pub use errors::{FetchError, ShelfError, SinkError};
 pub use folder_shelf::FolderShelf;
-pub use lists::{Memory, Text};
+
 pub use mem_shelf::MemShelf;
 pub use mem_sink::MemSink;
-pub use names::{is_name, is_plain};
-pub use numbers::{number_text, read_number};
 pub use shelf::Shelf;
 pub use sink::Sink;
 pub use std_sink::StdSink;

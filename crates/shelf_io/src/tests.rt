@@ -2,4 +2,3 @@
 
 mod files;
 mod memory;
-mod texts;

@@ -18,7 +18,8 @@ use gf2m::{Gf, Ledger, Steps};
 use lic_register::Register;
 use outcome_terms::Refusal;
 use rs_code::Word;
-use shelf_io::{Memory, Shelf};
+use lists::Memory;
+use shelf_io::Shelf;
 use std::alloc::Global;
 
 /// Calls a function that is generic in the field with 2^m elements, where m is 4 to 8.

@@ -24,7 +24,8 @@ mod writing;
 
 use cli_words::Status;
 pub use run_call::run;
-use shelf_io::{FolderShelf, StdSink, Text};
+use lists::Text;
+use shelf_io::{FolderShelf, StdSink};
 use std::alloc::Global;
 use std::io::ErrorKind;
 use std::marker::Brand;

@@ -13,7 +13,8 @@ ghost use Rattle.trace_cli.specs.Failures.{ReadsOne};
 use lic_register::{Register, RegisterReadError};
 use outcome_terms::Refusal;
 use rs_code::{Word, WordError};
-use shelf_io::{FetchError, Shelf, Text, fetch};
+use lists::Text;
+use shelf_io::{FetchError, Shelf, fetch};
 use std::alloc::Global;
 
 /// No command reads a blob of more bytes.

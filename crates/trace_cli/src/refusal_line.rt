@@ -8,7 +8,7 @@ use cli_words::{Status, error_line};
 use code_terms::WordFault;
 use outcome_terms::Refusal;
 use register_terms::RegisterKind;
-use shelf_io::Memory;
+use lists::Memory;
 use std::alloc::{AllocError, Global};
 
 /// The whole line. The only error is want of memory.

@@ -6,7 +6,7 @@ ghost use Rattle.std.specs.Fmt.{decimal};
 ghost use Rattle.desk_terms.specs.Report.{comma_separated, comma_before, accused_text, numbers_text, report_text};
 
 use desk_terms::{Accused, Findings};
-use shelf_io::Memory;
+use lists::Memory;
 use std::alloc::Global;
 
 /// The report of these findings. The only error is want of memory.

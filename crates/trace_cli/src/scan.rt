@@ -11,7 +11,7 @@ use desk_terms::{Accused, AccusedList, Findings};
 use gf2m::{Field, Ledger, Steps};
 use lic_register::Register;
 use rs_code::{Code, Message, Word};
-use shelf_io::{Memory, Text};
+use lists::{Memory, Text};
 use std::alloc::Global;
 
 /// Everyone enrolled who agrees with at least r/c of the r readable places, for the bound c. The only error is want of memory.

@@ -14,7 +14,8 @@ use gf2m::{Ledger, Steps};
 use lic_register::{EnrolError, Register, RegisterError};
 use outcome_terms::Refusal;
 use register_terms::RegisterKind;
-use shelf_io::{Shelf, ShelfError, Text};
+use lists::Text;
+use shelf_io::{Shelf, ShelfError};
 use std::alloc::Global;
 
 /// The text of a register without licensees. A number past 32 bits breaks the rule on it like any other.

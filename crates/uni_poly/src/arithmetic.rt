@@ -6,7 +6,7 @@ ghost use Rattle.algebra.specs.Series.{product};
 
 use crate::poly::Poly;
 use gf2m::{Field, Ledger, Steps};
-use shelf_io::Memory;
+use lists::Memory;
 use std::alloc::{AllocError, Global};
 
 impl<F: Field> Poly<F> {

@@ -4,7 +4,7 @@ ghost use Rattle.std.specs.Prelude.{◌≡◌, ◌≢◌, ℕ, ◌+◌, ◌≤�
 ghost use Rattle.algebra.specs.Lists.{IsListOf, IsTrimmed, coefficients};
 
 use gf2m::Field;
-use shelf_io::Memory;
+use lists::Memory;
 use std::alloc::Global;
 use std::marker::Model;
 

@@ -5,8 +5,7 @@ ghost use Rattle.uni_poly.specs.Roots.{IsRootList};
 
 use crate::poly::Poly;
 use gf2m::{Elements, Field, Ledger, Steps};
-use lists::Items;
-use shelf_io::Memory;
+use lists::{Items, Memory};
 use std::alloc::{AllocError, Global};
 
 impl<F: Field> Poly<F> {

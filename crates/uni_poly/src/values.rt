@@ -8,7 +8,7 @@ ghost use Rattle.uni_poly.specs.Division.{IsDivision};
 use crate::arithmetic::zeros;
 use crate::poly::Poly;
 use gf2m::{Field, Ledger, Steps};
-use shelf_io::Memory;
+use lists::Memory;
 use std::alloc::Global;
 
 impl<F: Field> Poly<F> {

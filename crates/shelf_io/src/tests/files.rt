@@ -1,6 +1,8 @@
 //! Files under a folder and standard output, with the system itself.
 
-use crate::{FolderShelf, Shelf, ShelfError, Sink, SinkError, StdSink, Text, is_name};
+use crate::{FolderShelf, Shelf, ShelfError, Sink, SinkError, StdSink};
+use lists::Text;
+use texts::is_name;
 use std::alloc::Global;
 use std::fs::Permissions;
 use std::io::Write;

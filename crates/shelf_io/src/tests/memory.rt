@@ -1,6 +1,7 @@
 //! The store and the output in memory, and reading a whole blob.
 
-use crate::{FetchError, MemShelf, MemSink, Shelf, ShelfError, Sink, SinkError, fetch, is_name};
+use crate::{FetchError, MemShelf, MemSink, Shelf, ShelfError, Sink, SinkError, fetch};
+use texts::is_name;
 use std::alloc::Global;
 use std::test::Fail;
 

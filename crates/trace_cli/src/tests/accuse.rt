@@ -1,7 +1,8 @@
 //! `accuse`: reports, bounds, words and failures outside.
 
 use super::calls::{answer, call, call_into, register, shelf};
-use shelf_io::{MemSink, Memory};
+use lists::Memory;
+use shelf_io::MemSink;
 use std::alloc::Global;
 use std::test::Fail;
 

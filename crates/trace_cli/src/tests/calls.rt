@@ -3,7 +3,8 @@
 ghost use Rattle.std.specs.Prelude.{◌≡◌, ◌<◌};
 
 use crate::run;
-use shelf_io::{MemShelf, MemSink, Memory};
+use lists::Memory;
+use shelf_io::{MemShelf, MemSink};
 use std::alloc::Global;
 use std::marker::Brand;
 use std::sync::ledger::Blank;

@@ -1,7 +1,9 @@
 //! `register` and `enrol`.
 
 use super::calls::{call, register};
-use shelf_io::{MemShelf, Memory, Shelf, is_name};
+use lists::Memory;
+use shelf_io::{MemShelf, Shelf};
+use texts::is_name;
 use std::alloc::Global;
 use std::test::Fail;
 

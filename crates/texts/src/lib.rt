@@ -1,0 +1,10 @@
+//! The small texts that every format is made of: names and whole numbers.
+#![tactic(auto)]
+
+mod names;
+mod numbers;
+#[cfg(test)]
+mod tests;
+
+pub use names::{is_name, is_plain};
+pub use numbers::{number_text, read_number};
