@@ -1,12 +1,12 @@
 -- The lines that a playlist's text says make that playlist again: one segment more after another.
-use Rattle.std.proofs.Common.{◌≡◌, ◌∙◌, sym, ap, ℕ, suc, ◌+◌, ◌<◌, ◌≤◌, Bool, true, false, not, nat_le, List, [], ◌∷◌, ◌++◌, length, length-append, append_assoc, append-nil, reverse, Option, Some, None, Ok, refl, arith}
+use Rattle.std.proofs.Common.{◌≡◌, ◌∙◌, sym, ap, ℕ, ◌+◌, ◌<◌, ◌≤◌, Bool, true, false, not, nat_le, List, [], ◌∷◌, ◌++◌, length, length-append, append_assoc, append-nil, reverse, Some, None, Ok, refl, arith}
 use Rattle.std.specs.List.{flat_map, list_any}
 use Rattle.text_terms.specs.Names.{is_name}
 use Rattle.std.proofs.lemmas.List.{reverse-append}
 use Rattle.std.proofs.lemmas.Bool.Decides.{nat_tests}
 use Rattle.playlist_terms.specs.MediaLines.{MediaLine, Uri, Start, Version, Target, Sequence, Duration, Kind, End, Cut}
 use Rattle.playlist_terms.specs.Playlists.{PlaylistSegment, Playlist}
-use Rattle.playlist_terms.specs.Faults.{is_target, is_end, version_said, target_said, sequence_said, last_said, pending, is_after_cut, segments, segment_of, later_fault, fault_after}
+use Rattle.playlist_terms.specs.Faults.{is_target, is_end, version_said, target_said, sequence_said, last_said, pending, is_after_cut, segments, later_fault, fault_after}
 use Rattle.playlist_terms.specs.Reading.{first_fault, listed, playlist_among}
 
 -- ---- what the lines of a text say

@@ -4,3 +4,4 @@ pub mod Digits
 pub mod WrittenDurations
 pub mod WrittenLines
 pub mod Written
+pub mod Said

@@ -1,14 +1,14 @@
 -- The text of a playlist is read as that playlist.
-use Rattle.std.proofs.Common.{◌≡◌, ◌∙◌, sym, ap, ℕ, ◌^◌, ◌/◌, ◌%◌, ◌<◌, ◌≤◌, Bool, true, false, not, ◌&&◌, ◌==◌, nat_le, List, [], ◌∷◌, ◌++◌, length, map, reverse, codes, All, Ok, refl, arith}
+use Rattle.std.proofs.Common.{◌≡◌, ◌∙◌, ap, ℕ, ◌^◌, ◌/◌, ◌%◌, ◌<◌, Bool, true, false, not, ◌==◌, nat_le, List, [], ◌∷◌, ◌++◌, map, reverse, codes, All, Ok, refl, arith}
 use Rattle.std.specs.Fmt.{decimal}
 use Rattle.std.specs.List.{list_all, flat_map}
-use Rattle.std.specs.Str.{is_utf8}
+use Rattle.std.proofs.lemmas.Str.{is_utf8-from_IsUtf8}
 use Rattle.std.proofs.lemmas.List.{map-append}
 use Rattle.std.proofs.lemmas.List.Elements.{All-head, All-tail}
 use Rattle.text_terms.specs.Names.{is_printable, is_name}
 use Rattle.text_terms.proofs.NameLaws.{name_form}
 use Rattle.playlist_terms.specs.Lines.{stands_as_uri}
-use Rattle.playlist_terms.specs.MediaLines.{MediaLine, End, media_line}
+use Rattle.playlist_terms.specs.MediaLines.{End, media_line}
 use Rattle.playlist_terms.specs.Playlists.{PlaylistSegment, Playlist, IsSegment, IsPlaylist, is_segment_uri, duration_line, cut_lines, segment_lines, head_lines, playlist_lines, playlist_text}
 use Rattle.playlist_terms.specs.Durations.{duration_text, low_digits}
 use Rattle.playlist_terms.specs.Reading.{playlist_among, playlist_of}
@@ -84,7 +84,7 @@ cut_again false = refl
 segment_again : (s : PlaylistSegment) → IsSegment s → map media_line (segment_lines s) ≡ segment_said s
 segment_again s is =
     let duration = duration_said_again s.micros is.micros in
-    let uri = uri_line s.uri is.uri is.utf8 in
+    let uri = uri_line s.uri is.uri (is_utf8-from_IsUtf8 s.uri is.utf8) in
     map-append media_line (cut_lines s.cut) (duration_line s.micros ∷ s.uri ∷ []) ∙ (λ i. cut_again s.cut i ++ (duration i ∷ uri i ∷ []))
 
 segments_again : (ss : List PlaylistSegment) → AreSegments ss → map media_line (flat_map segment_lines ss) ≡ flat_map segment_said ss

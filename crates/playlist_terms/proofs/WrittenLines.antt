@@ -1,21 +1,21 @@
 -- What each written line says.
-use Rattle.std.proofs.Common.{◌≡◌, ◌∙◌, sym, ap, ℕ, zero, suc, ◌/◌, ◌%◌, ◌^◌, ◌<◌, ◌≤◌, Bool, true, false, not, ◌&&◌, eqb, nat_le, Some, List, [], ◌∷◌, ◌++◌, length, get_or, codes, refl, arith}
+use Rattle.std.proofs.Common.{◌≡◌, ◌∙◌, ap, ℕ, zero, suc, ◌/◌, ◌%◌, ◌^◌, ◌<◌, ◌≤◌, Bool, true, false, not, eqb, Some, List, [], ◌∷◌, ◌++◌, get_or, codes, refl, arith}
 use Rattle.std.specs.Prelude.{nat_lt}
 use Rattle.std.specs.Char.{is_ascii_digit}
 use Rattle.std.specs.Fmt.{decimal}
 use Rattle.std.specs.List.{list_all}
 use Rattle.std.specs.Str.{is_utf8, IsUtf8, all_ascii_digits}
-use Rattle.std.proofs.lemmas.Bool.{ne_eqb, leb-true, eqb-true}
+use Rattle.std.proofs.lemmas.Bool.{leb-true}
 use Rattle.std.proofs.lemmas.Bool.Decides.{nat_tests}
-use Rattle.std.proofs.lemmas.Str.{IsUtf8-append, IsUtf8-from_ascii, is_utf8-from_IsUtf8, IsUtf8-from_is_utf8}
+use Rattle.std.proofs.lemmas.Str.{IsUtf8-append, IsUtf8-from_ascii, is_utf8-from_IsUtf8}
 use Rattle.text_terms.specs.Names.{is_name}
 use Rattle.playlist_terms.specs.Lines.{line_of, is_spaces, stands_as_uri}
 use Rattle.playlist_terms.specs.TagValues.{whole_number_of, as_version}
 use Rattle.playlist_terms.specs.Durations.{duration_of, duration_text, low_digits}
-use Rattle.playlist_terms.specs.MediaLines.{MediaLine, Uri, Start, Version, Target, Sequence, Duration, Kind, End, Cut, media_tag, media_line}
+use Rattle.playlist_terms.specs.MediaLines.{Uri, Start, Version, Target, Sequence, Duration, Kind, End, Cut, media_tag, media_line}
 use Rattle.playlist_terms.specs.Playlists.{is_segment_uri, duration_line}
-use Rattle.playlist_terms.proofs.Digits.{both, joins, decimal_utf8, decimal_digits, number_again, version_again}
-use Rattle.playlist_terms.proofs.WrittenDurations.{IsFrom, from_append, digits_from, duration_again, low_digits_are}
+use Rattle.playlist_terms.proofs.Digits.{both, joins, decimal_utf8, number_again, version_again}
+use Rattle.playlist_terms.proofs.WrittenDurations.{duration_again, low_digits_are}
 
 -- ---- UTF-8
 

@@ -1,6 +1,6 @@
 -- Which fault a line has, by what stands on it and in front of it. The lines in front of a line stand here with the last one
 -- first, so that a definition looks back from the line.
-use Rattle.std.specs.Prelude.{◌≡◌, ℕ, suc, Bool, true, false, not, nat_le, if◌then◌else◌, List, [], ◌∷◌, ◌++◌, length, Option, Some, None}
+use Rattle.std.specs.Prelude.{ℕ, Bool, true, false, not, nat_le, if◌then◌else◌, List, [], ◌∷◌, ◌++◌, length, Option, Some, None}
 use Rattle.std.specs.List.{list_any}
 use Rattle.std.specs.Option.{is_some, is_none, unwrap_or}
 use Rattle.text_terms.specs.Names.{is_name}

@@ -1,5 +1,5 @@
 -- A small playlist for the worked examples: three segments of 6, 6 and 4.5 seconds.
-use Rattle.std.specs.Prelude.{ℕ, Bool, true, false, List, [], ◌∷◌, ◌++◌, map, take, codes, Result}
+use Rattle.std.specs.Prelude.{ℕ, Bool, false, List, [], ◌∷◌, ◌++◌, take, codes, Result}
 use Rattle.std.specs.List.{flat_map}
 use Rattle.playlist_terms.specs.Lines.{lines_of, fed}
 use Rattle.playlist_terms.specs.Playlists.{PlaylistSegment, Playlist}

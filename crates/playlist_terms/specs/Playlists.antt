@@ -2,7 +2,7 @@
 use Rattle.std.specs.Prelude.{◌≡◌, ℕ, ◌^◌, ◌<◌, ◌≤◌, Bool, true, ◌&&◌, if◌then◌else◌, List, [], ◌∷◌, ◌++◌, length, codes, All}
 use Rattle.std.specs.Fmt.{decimal}
 use Rattle.std.specs.List.{flat_map}
-use Rattle.std.specs.Str.{is_utf8}
+use Rattle.std.specs.Str.{IsUtf8}
 use Rattle.text_terms.specs.Names.{is_name}
 use Rattle.playlist_terms.specs.Lines.{fed, stands_as_uri}
 use Rattle.playlist_terms.specs.Durations.{duration_text}
@@ -27,7 +27,7 @@ is_segment_uri uri = is_name uri && stands_as_uri uri
 
 pub record IsSegment (s : PlaylistSegment) : Type 0 where
   pub uri : is_segment_uri s.uri ≡ true
-  pub utf8 : is_utf8 s.uri ≡ true
+  pub utf8 : IsUtf8 s.uri
   pub micros : s.micros < 10 ^ 16
 
 pub record IsPlaylist (p : Playlist) : Type 0 where

@@ -1,5 +1,5 @@
 -- The media playlist that a text spells, or its first fault.
-use Rattle.std.specs.Prelude.{◌≡◌, ℕ, suc, ◌<◌, ◌≤◌, ◌^◌, Bool, true, not, if◌then◌else◌, List, [], ◌∷◌, map, reverse, length, Option, Some, None, Result, Ok, Err}
+use Rattle.std.specs.Prelude.{◌≡◌, ℕ, suc, ◌<◌, ◌≤◌, ◌^◌, true, not, if◌then◌else◌, List, [], ◌∷◌, map, reverse, length, Option, Some, None, Result, Ok, Err}
 use Rattle.std.specs.List.{list_any}
 use Rattle.std.specs.Option.{is_some, option_map, unwrap_or, ForSome}
 use Rattle.playlist_terms.specs.Lines.{lines_of, stands_as_uri}
