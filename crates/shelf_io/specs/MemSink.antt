@@ -2,7 +2,8 @@
 use Rattle.std.specs.Prelude.{ℕ, ◌/◌, List, ◌++◌, length, take, Result, Ok, Err}
 use Rattle.shelf_io.specs.declared.errors.SinkError.{SinkError}
 use Rattle.shelf_io.specs.declared.errors.SinkError.TheVariants as sink
-use Rattle.shelf_io.specs.Plan.{Plan, after_call, one_more}
+use Rattle.shelf_terms.specs.Counts.{one_more}
+use Rattle.shelf_io.specs.Plan.{Plan, after_call}
 
 pub record MemSinkView : Type 0 where
   pub written : List ℕ

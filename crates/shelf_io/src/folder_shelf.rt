@@ -1,16 +1,16 @@
 //! A store of files under a folder.
 
-ghost use Rattle.std.specs.Prelude.{◌≡◌, ◌≤◌, [], ℕ, List, length, IfOk, IsTrue, None, Err, true};
+ghost use Rattle.std.specs.Prelude.{◌≡◌, ◌≤◌, length, IfOk, IsTrue, None, Err, true};
 ghost use Rattle.text_terms.specs.Names.{is_name};
-ghost use Rattle.shelf_terms.specs.Counts.{tally};
+ghost use Rattle.shelf_terms.specs.Counts.{counted_read, counted_write, no_counts};
 ghost use Rattle.shelf_terms.specs.Causes.{ReadCauses, WriteCauses};
-ghost use Rattle.shelf_io.specs.Folder.{after_read, after_written, leaves_folder};
+ghost use Rattle.shelf_io.specs.Folder.{leaves_folder};
 ghost use Rattle.shelf_io.specs.Reads.{PartGives, part_failed, part_missed};
 ghost use Rattle.shelf_io.specs.Writes.{WriteGives, write_failed};
 
+use crate::counts::Counts;
 use crate::errors::ShelfError;
 use crate::folder_name::leaves_folder;
-use crate::name_buffer::NameBuffer;
 use crate::shelf::Shelf;
 use lists::Text;
 use std::alloc::{AllocError, Global};
@@ -28,32 +28,26 @@ use std::{fs, io};
 pub struct FolderShelf<R: Files + Drop> {
     runtime: R,
     folder: Text,
-    faults: u64,
-    misses: u64,
-    write_faults: u64,
-    blamed: NameBuffer,
+    counts: Counts,
 }
 
 impl<R: Files + Drop> Model for FolderShelf<R> {
-    ghost use Rattle.shelf_io.specs.Folder.{FolderShelfView};
+    ghost use Rattle.shelf_terms.specs.Counts.{Tally};
 
-    ghost Value = { FolderShelfView };
+    ghost Value = { Tally };
 
-    ghost view = { λ s. record { faults = s.faults; misses = s.misses; write_faults = s.write_faults; blamed = s.blamed } };
+    ghost view = { λ s. s.counts };
 }
 
 impl<R: Files + Drop> FolderShelf<R> {
     /// The files under this folder. Nothing is read yet.
     pub fn new(runtime: R, folder: Text) -> Self
-        ensures { result ≡ record { faults = 0; misses = 0; write_faults = 0; blamed = [] } }
+        ensures { result ≡ no_counts }
     {
         FolderShelf {
             runtime,
             folder,
-            faults: 0,
-            misses: 0,
-            write_faults: 0,
-            blamed: NameBuffer::new(),
+            counts: Counts::new(),
         }
     }
 }
@@ -63,13 +57,7 @@ impl<R: Files + Drop> Shelf for FolderShelf<R> {
 
     ghost holds = { λ _. None };
 
-    ghost faults = { λ s. s.faults };
-
-    ghost misses = { λ s. s.misses };
-
-    ghost write_faults = { λ s. s.write_faults };
-
-    ghost blamed = { λ s. s.blamed };
+    ghost counts = { λ s. s };
 
     fn part(
         &mut self,
@@ -81,13 +69,12 @@ impl<R: Files + Drop> Shelf for FolderShelf<R> {
         requires name { IsTrue (is_name name.now) }
         requires some { 1 ≤ most }
         ensures most { IfOk result (λ part. length part.items ≤ most) }
-        ensures causes { ReadCauses (tally (λ s. s.faults) (λ s. s.misses) (λ s. s.write_faults) (λ s. s.blamed) self.old)
-            (tally (λ s. s.faults) (λ s. s.misses) (λ s. s.write_faults) (λ s. s.blamed) self.new) name.now (part_failed result) (part_missed result) }
-        ensures after { self.new ≡ after_read self.old name.now (part_failed result) (part_missed result) }
+        ensures causes { ReadCauses self.old self.new name.now (part_failed result) (part_missed result) }
+        ensures after { self.new ≡ counted_read self.old name.now (part_failed result) (part_missed result) }
         ensures refused { leaves_folder name.now ≡ true → result ≡ Err ShelfError.Missing }
     {
         if leaves_folder(name) {
-            self.misses = self.misses.saturating_add(1);
+            self.counts.missed();
             return Err(ShelfError::Missing);
         }
         let path = path_of(alloc, self.folder.as_str(), name)?;
@@ -99,13 +86,12 @@ impl<R: Files + Drop> Shelf for FolderShelf<R> {
             }
             Err(error) => match error.kind() {
                 io::ErrorKind::NotFound => {
-                    self.misses = self.misses.saturating_add(1);
+                    self.counts.missed();
                     Err(ShelfError::Missing)
                 }
                 io::ErrorKind::OutOfMemory => Err(ShelfError::Memory),
                 _ => {
-                    self.faults = self.faults.saturating_add(1);
-                    self.blamed.set(name);
+                    self.counts.read_failed(name);
                     Err(ShelfError::Fault)
                 }
             },
@@ -115,13 +101,12 @@ impl<R: Files + Drop> Shelf for FolderShelf<R> {
     fn write(&mut self, alloc: Global, name: &str, bytes: &[u8]) -> Result<(), ShelfError>
         requires { IsTrue (is_name name.now) }
         ensures never_missing { result ≡ Err ShelfError.Missing → ⊥ }
-        ensures causes { WriteCauses (tally (λ s. s.faults) (λ s. s.misses) (λ s. s.write_faults) (λ s. s.blamed) self.old)
-            (tally (λ s. s.faults) (λ s. s.misses) (λ s. s.write_faults) (λ s. s.blamed) self.new) (write_failed result) }
-        ensures after { self.new ≡ after_written self.old (write_failed result) }
+        ensures causes { WriteCauses self.old self.new (write_failed result) }
+        ensures after { self.new ≡ counted_write self.old (write_failed result) }
         ensures refused { leaves_folder name.now ≡ true → result ≡ Err ShelfError.Fault }
     {
         if leaves_folder(name) {
-            self.write_faults = self.write_faults.saturating_add(1);
+            self.counts.write_failed();
             return Err(ShelfError::Fault);
         }
         let path = path_of(alloc, self.folder.as_str(), name)?;
@@ -130,7 +115,7 @@ impl<R: Files + Drop> Shelf for FolderShelf<R> {
             Err(error) => match error.kind() {
                 io::ErrorKind::OutOfMemory => Err(ShelfError::Memory),
                 _ => {
-                    self.write_faults = self.write_faults.saturating_add(1);
+                    self.counts.write_failed();
                     Err(ShelfError::Fault)
                 }
             },

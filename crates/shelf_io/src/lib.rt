@@ -3,6 +3,7 @@
 
 mod blob_list;
 mod call_plan;
+mod counts;
 mod errors;
 mod folder_name;
 mod folder_shelf;

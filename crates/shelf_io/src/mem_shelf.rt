@@ -1,9 +1,9 @@
 //! A store in memory, which fails where a test wants it to.
 
-ghost use Rattle.std.specs.Prelude.{◌≡◌, ◌≤◌, ◌++◌, ◌∷◌, [], ℕ, List, length, IfOk, IsTrue, OnErr, OnOk, is_ok, Some, Err, true, false};
+ghost use Rattle.std.specs.Prelude.{◌≡◌, ◌≤◌, ◌++◌, ◌∷◌, [], length, IfOk, IsTrue, OnErr, OnOk, is_ok, Some, Err, true, false};
 ghost use Rattle.std.specs.FinMap.{empty, insert};
 ghost use Rattle.text_terms.specs.Names.{is_name};
-ghost use Rattle.shelf_terms.specs.Counts.{tally};
+ghost use Rattle.shelf_terms.specs.Counts.{no_counts};
 ghost use Rattle.shelf_terms.specs.Causes.{ReadCauses, WriteCauses};
 ghost use Rattle.shelf_io.specs.MemShelf.{after_part, after_write};
 ghost use Rattle.shelf_io.specs.Plan.{fails_next};
@@ -12,8 +12,8 @@ ghost use Rattle.shelf_io.specs.Writes.{WriteGives, write_failed};
 
 use crate::blob_list::{Blob, find, part_slice, store};
 use crate::call_plan::CallPlan;
+use crate::counts::Counts;
 use crate::errors::ShelfError;
-use crate::name_buffer::NameBuffer;
 use crate::shelf::Shelf;
 use lists::Memory;
 use std::alloc::Global;
@@ -25,10 +25,7 @@ pub struct MemShelf {
     alloc: Global,
     blobs: Vec<Blob>,
     plan: CallPlan,
-    faults: u64,
-    misses: u64,
-    write_faults: u64,
-    blamed: NameBuffer,
+    counts: Counts,
 }
 
 impl Model for MemShelf {
@@ -39,22 +36,19 @@ impl Model for MemShelf {
 
     ghost coded = { view_code };
 
-    ghost view = { λ s. record { blobs = blobs_of s.blobs.items; plan = s.plan; faults = s.faults; misses = s.misses; write_faults = s.write_faults; blamed = s.blamed } };
+    ghost view = { λ s. record { blobs = blobs_of s.blobs.items; plan = s.plan; counts = s.counts } };
 }
 
 impl MemShelf {
     /// A store that holds nothing, and of which no call is to fail.
     pub fn new(alloc: Global) -> Self
-        ensures { result ≡ record { blobs = empty; plan = record { failing = []; made = 0 }; faults = 0; misses = 0; write_faults = 0; blamed = [] } }
+        ensures { result ≡ record { blobs = empty; plan = record { failing = []; made = 0 }; counts = no_counts } }
     {
         MemShelf {
             alloc,
             blobs: Vec::new(alloc),
             plan: CallPlan::new(alloc),
-            faults: 0,
-            misses: 0,
-            write_faults: 0,
-            blamed: NameBuffer::new(),
+            counts: Counts::new(),
         }
     }
 
@@ -80,13 +74,7 @@ impl Shelf for MemShelf {
 
     ghost holds = { λ s. Some s.blobs };
 
-    ghost faults = { λ s. s.faults };
-
-    ghost misses = { λ s. s.misses };
-
-    ghost write_faults = { λ s. s.write_faults };
-
-    ghost blamed = { λ s. s.blamed };
+    ghost counts = { λ s. s.counts };
 
     /// A call that is to fail does so before anything is looked up.
     fn part(
@@ -101,19 +89,17 @@ impl Shelf for MemShelf {
         ensures most { IfOk result (λ part. length part.items ≤ most) }
         ensures bytes { PartGives (λ part. part.items) (Some self.old.blobs) name.now from most result }
         ensures same { Some self.new.blobs ≡ Some self.old.blobs }
-        ensures causes { ReadCauses (tally (λ s. s.faults) (λ s. s.misses) (λ s. s.write_faults) (λ s. s.blamed) self.old)
-            (tally (λ s. s.faults) (λ s. s.misses) (λ s. s.write_faults) (λ s. s.blamed) self.new) name.now (part_failed result) (part_missed result) }
+        ensures causes { ReadCauses self.old.counts self.new.counts name.now (part_failed result) (part_missed result) }
         ensures fails { part_failed result ≡ fails_next self.old.plan }
         ensures after { self.new ≡ after_part self.old name.now (part_failed result) (part_missed result) }
     {
         if self.plan.next_fails() {
-            self.faults = self.faults.saturating_add(1);
-            self.blamed.set(name);
+            self.counts.read_failed(name);
             return Err(ShelfError::Fault);
         }
         match find(self.blobs.as_slice(), name) {
             None => {
-                self.misses = self.misses.saturating_add(1);
+                self.counts.missed();
                 Err(ShelfError::Missing)
             }
             Some(place) => {
@@ -128,13 +114,12 @@ impl Shelf for MemShelf {
         requires { IsTrue (is_name name.now) }
         ensures bytes { WriteGives (Some self.old.blobs) (Some self.new.blobs) name.now bytes.now result }
         ensures never_missing { result ≡ Err ShelfError.Missing → ⊥ }
-        ensures causes { WriteCauses (tally (λ s. s.faults) (λ s. s.misses) (λ s. s.write_faults) (λ s. s.blamed) self.old)
-            (tally (λ s. s.faults) (λ s. s.misses) (λ s. s.write_faults) (λ s. s.blamed) self.new) (write_failed result) }
+        ensures causes { WriteCauses self.old.counts self.new.counts (write_failed result) }
         ensures fails { write_failed result ≡ fails_next self.old.plan }
         ensures after { self.new ≡ after_write self.old name.now bytes.now (is_ok result) (write_failed result) }
     {
         if self.plan.next_fails() {
-            self.write_faults = self.write_faults.saturating_add(1);
+            self.counts.write_failed();
             return Err(ShelfError::Fault);
         }
         match store(&mut self.blobs, alloc, name, bytes) {

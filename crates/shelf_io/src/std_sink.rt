@@ -2,8 +2,7 @@
 
 ghost use Rattle.std.specs.Prelude.{◌≡◌, ◌≤◌, None, Err, OnOk, if◌then◌else◌};
 ghost use Rattle.std.specs.Io.KnownBytes.{Appends};
-ghost use Rattle.shelf_terms.specs.Counts.{Rose};
-ghost use Rattle.shelf_io.specs.Plan.{one_more};
+ghost use Rattle.shelf_terms.specs.Counts.{Rose, one_more};
 ghost use Rattle.shelf_io.specs.Puts.{PutGives, put_failed};
 
 use crate::errors::SinkError;

@@ -2,7 +2,6 @@
 
 ghost use Rattle.std.specs.Prelude.{◌≡◌, ◌≤◌, ◌^◌, length, IfOk, IsTrue};
 ghost use Rattle.text_terms.specs.Names.{is_name};
-ghost use Rattle.shelf_terms.specs.Counts.{tally};
 ghost use Rattle.shelf_terms.specs.Causes.{ReadCauses};
 ghost use Rattle.shelf_io.specs.Reads.{FetchGives, fetch_failed, fetch_missed};
 
@@ -24,8 +23,7 @@ pub fn fetch<S: Shelf>(
     ensures most { IfOk result (λ whole. length whole.items ≤ limit) }
     ensures bytes { FetchGives (λ whole. whole.items) (S.holds shelf.old) name.now limit result }
     ensures same { S.holds shelf.new ≡ S.holds shelf.old }
-    ensures causes { ReadCauses (tally S.faults S.misses S.write_faults S.blamed shelf.old)
-        (tally S.faults S.misses S.write_faults S.blamed shelf.new) name.now (fetch_failed result) (fetch_missed result) }
+    ensures causes { ReadCauses (S.counts shelf.old) (S.counts shelf.new) name.now (fetch_failed result) (fetch_missed result) }
 {
     let mut whole = Vec::new(alloc);
     'parts: loop {

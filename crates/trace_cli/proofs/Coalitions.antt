@@ -10,7 +10,7 @@ use Rattle.code_terms.proofs.WordLength.{word_of-length}
 use Rattle.register_terms.specs.Enrolment.{Enrolment}
 use Rattle.register_terms.specs.RegisterText.{register_of}
 use Rattle.register_terms.proofs.Read.{read_was_written}
-use Rattle.desk_terms.specs.Findings.{is_allowed_bound, least_readable}
+use Rattle.desk_terms.specs.Findings.{is_allowed_bound, not_enough}
 use Rattle.coalition_terms.proofs.Tracing.{traced}
 use Rattle.outcome_terms.specs.declared.status.Status.{Status}
 use Rattle.outcome_terms.specs.declared.status.Status.TheVariants as status
@@ -38,8 +38,8 @@ found_traces blobs register_name word_name c found e word members holds_register
     let read_alike : word_of e.bits report.word_bytes ≡ Ok report.word = subst (λ (r : Enrolment). word_of r.bits report.word_bytes ≡ Ok report.word) same report.word_read in
     let same_word : report.word ≡ word =
     one_reading (word_of e.bits) (blob_at blobs word_name) report.word_bytes holds_word.bytes report.word word report.word_held holds_word.held read_alike holds_word.read in
-    let enough : least_readable e c < readable word =
-    subst (λ (w : List (Option ℕ)). least_readable e c < readable w) same_word (subst (λ (r : Enrolment). least_readable r c < readable report.word) same report.enough) in
+    let enough : not_enough e c < readable word =
+    subst (λ (w : List (Option ℕ)). not_enough e c < readable w) same_word (subst (λ (r : Enrolment). not_enough r c < readable report.word) same report.enough) in
     let allowed : is_allowed_bound e.dimension c ≡ true = subst (λ (r : Enrolment). is_allowed_bound r.dimension c ≡ true) same report.bound_allowed in
     traced e word c members (read_was_written holds_register.bytes e holds_register.read).valid (word_of-length e.bits holds_word.bytes word holds_word.read).most (at_least_one e.dimension c allowed) enough is_coalition explains
 

@@ -3,7 +3,6 @@
 ghost use Rattle.std.specs.Prelude.{◌≡◌, ◌^◌, ◌≤◌, length, false, Some, IfOk, IfErr, IfSome, IsTrue};
 ghost use Rattle.std.specs.Result.{result_err};
 ghost use Rattle.text_terms.specs.Names.{is_name};
-ghost use Rattle.shelf_terms.specs.Counts.{tally};
 ghost use Rattle.outcome_terms.specs.Commands.{Accuse};
 ghost use Rattle.outcome_terms.specs.Outcome.{accuse_outcome, allowed_bound, report_of};
 ghost use Rattle.outcome_terms.specs.Endings.{Answers, CommandCauses, IsInner, NamesFailure, refused_as, is_bad_words};
@@ -52,7 +51,7 @@ pub fn accuse<S: Shelf, P: Ledger, Q: Ledger>(
     ensures command { refused_as is_bad_words (result_err result) ≡ false }
     ensures names { NamesFailure (Some (Accuse reg.now word.now c)) (result_err result) }
     ensures same { S.holds shelf.new ≡ S.holds shelf.old }
-    ensures causes { CommandCauses (tally S.faults S.misses S.write_faults S.blamed shelf.old) (tally S.faults S.misses S.write_faults S.blamed shelf.new) (result_err result) }
+    ensures causes { CommandCauses (S.counts shelf.old) (S.counts shelf.new) (result_err result) }
 {
     let register = read_register(alloc, shelf, reg)?;
     let bound = allowed(valid_dimension(&register), c)?;

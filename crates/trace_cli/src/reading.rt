@@ -3,7 +3,6 @@
 ghost use Rattle.std.specs.Prelude.{◌≡◌, ◌≤◌, ◌^◌, length, false, IfOk, IfErr, IfSome, IsTrue};
 ghost use Rattle.std.specs.Result.{result_err};
 ghost use Rattle.text_terms.specs.Names.{is_name};
-ghost use Rattle.shelf_terms.specs.Counts.{tally};
 ghost use Rattle.code_terms.specs.WordText.{word_of};
 ghost use Rattle.register_terms.specs.RegisterText.{register_of};
 ghost use Rattle.outcome_terms.specs.Outcome.{blob_limit, read_blob, read_register, read_word, register_or_refusal, word_or_refusal};
@@ -28,7 +27,7 @@ fn bytes_of<S: Shelf>(alloc: Global, shelf: &mut S, name: &str) -> Result<Vec<u8
     ensures command { refused_as is_bad_words (result_err result) ≡ false }
     ensures names { ReadsOne name.now (result_err result) }
     ensures same { S.holds shelf.new ≡ S.holds shelf.old }
-    ensures causes { CommandCauses (tally S.faults S.misses S.write_faults S.blamed shelf.old) (tally S.faults S.misses S.write_faults S.blamed shelf.new) (result_err result) }
+    ensures causes { CommandCauses (S.counts shelf.old) (S.counts shelf.new) (result_err result) }
 {
     match fetch(alloc, shelf, name, BLOB_LIMIT) {
         Ok(bytes) => Ok(bytes),
@@ -51,7 +50,7 @@ pub fn read_register<S: Shelf>(
     ensures command { refused_as is_bad_words (result_err result) ≡ false }
     ensures names { ReadsOne name.now (result_err result) }
     ensures same { S.holds shelf.new ≡ S.holds shelf.old }
-    ensures causes { CommandCauses (tally S.faults S.misses S.write_faults S.blamed shelf.old) (tally S.faults S.misses S.write_faults S.blamed shelf.new) (result_err result) }
+    ensures causes { CommandCauses (S.counts shelf.old) (S.counts shelf.new) (result_err result) }
 {
     let bytes = bytes_of(alloc, shelf, name)?;
     register_of_bytes(alloc, bytes.as_slice())
@@ -85,7 +84,7 @@ pub fn read_word<S: Shelf>(
     ensures command { refused_as is_bad_words (result_err result) ≡ false }
     ensures names { ReadsOne name.now (result_err result) }
     ensures same { S.holds shelf.new ≡ S.holds shelf.old }
-    ensures causes { CommandCauses (tally S.faults S.misses S.write_faults S.blamed shelf.old) (tally S.faults S.misses S.write_faults S.blamed shelf.new) (result_err result) }
+    ensures causes { CommandCauses (S.counts shelf.old) (S.counts shelf.new) (result_err result) }
 {
     let bytes = bytes_of(alloc, shelf, name)?;
     word_of_bytes(alloc, bytes.as_slice(), m)

@@ -3,7 +3,7 @@
 ghost use Rattle.std.specs.Prelude.{◌≡◌, ◌≢◌, ◌⊎◌, ℕ, List, [], map, IfSome, IsTrue, Some, None, false};
 ghost use Rattle.std.specs.String.{string_bytes};
 ghost use Rattle.text_terms.specs.Names.{is_name};
-ghost use Rattle.shelf_terms.specs.Counts.{Rose, tally};
+ghost use Rattle.shelf_terms.specs.Counts.{Rose};
 ghost use Rattle.outcome_terms.specs.Commands.{request_of, Make, Enrol, Accuse};
 ghost use Rattle.outcome_terms.specs.Outcome.{outcome};
 ghost use Rattle.outcome_terms.specs.Endings.{Ends, Performs, StatusCauses, TellsReport, outcome_status, is_free_status};
@@ -51,23 +51,23 @@ pub fn run<S: Shelf, O: Sink, P: Ledger, Q: Ledger>(
         → result ≡ outcome_status (outcome (map string_bytes words.now) blobs)) }
 
     // Where no count of faults rose, the status is the outcome's, but for want of memory.
-    ensures complete { (Rose (S.faults shelf.old) (S.faults shelf.new) → ⊥)
-        → (Rose (S.write_faults shelf.old) (S.write_faults shelf.new) → ⊥)
+    ensures complete { (Rose (S.counts shelf.old).faults (S.counts shelf.new).faults → ⊥)
+        → (Rose (S.counts shelf.old).write_faults (S.counts shelf.new).write_faults → ⊥)
         → (Rose (O.faults out.old) (O.faults out.new) → ⊥)
         → IfSome (S.holds shelf.old) (λ blobs. result ≢ Status.Memory
         → result ≡ outcome_status (outcome (map string_bytes words.now) blobs)) }
 
     // What failed outside was counted in this call.
     ensures causes { StatusCauses
-        (tally S.faults S.misses S.write_faults S.blamed shelf.old)
-        (tally S.faults S.misses S.write_faults S.blamed shelf.new)
+        (S.counts shelf.old)
+        (S.counts shelf.new)
         (Rose (O.faults out.old) (O.faults out.new))
         result }
 
     // The whole: blobs after, bytes out, and the name that a failed read is blamed on.
     ensures ends { Ends (map string_bytes words.now) (S.holds shelf.old) (S.holds shelf.new)
-        (tally S.faults S.misses S.write_faults S.blamed shelf.old)
-        (tally S.faults S.misses S.write_faults S.blamed shelf.new)
+        (S.counts shelf.old)
+        (S.counts shelf.new)
         result (Rose (O.faults out.old) (O.faults out.new)) (O.written out.old) (O.written out.new) }
 {
     match perform(alloc, words, shelf, prods, looks) {
@@ -85,8 +85,8 @@ fn perform<S: Shelf, P: Ledger, Q: Ledger>(
     looks: &mut Steps<Q>,
 ) -> Result<Done, Refusal>
     ensures { Performs (request_of (map string_bytes words.now)) (S.holds shelf.old) (S.holds shelf.new)
-        (tally S.faults S.misses S.write_faults S.blamed shelf.old)
-        (tally S.faults S.misses S.write_faults S.blamed shelf.new)
+        (S.counts shelf.old)
+        (S.counts shelf.new)
         (done_text result) }
 {
     let Some(command) = read_words(words) else {
@@ -111,8 +111,8 @@ fn report<S: Shelf, P: Ledger, Q: Ledger>(
     requires reg { IsTrue (is_name reg.now) }
     requires word { IsTrue (is_name word.now) }
     ensures { Performs (Some (Accuse reg.now word.now c)) (S.holds shelf.old) (S.holds shelf.new)
-        (tally S.faults S.misses S.write_faults S.blamed shelf.old)
-        (tally S.faults S.misses S.write_faults S.blamed shelf.new)
+        (S.counts shelf.old)
+        (S.counts shelf.new)
         (done_text result) }
 {
     match accuse(alloc, shelf, reg, word, c, prods, looks) {
@@ -133,8 +133,8 @@ fn make<S: Shelf, Q: Ledger>(
 ) -> Result<Done, Refusal>
     requires { IsTrue (is_name out.now) }
     ensures { Performs (Some (Make m k a b out.now)) (S.holds shelf.old) (S.holds shelf.new)
-        (tally S.faults S.misses S.write_faults S.blamed shelf.old)
-        (tally S.faults S.misses S.write_faults S.blamed shelf.new)
+        (S.counts shelf.old)
+        (S.counts shelf.new)
         (done_text result) }
 {
     let text = match register_text_of(alloc, m, k, a, b, looks) {
@@ -158,8 +158,8 @@ fn enrol<S: Shelf, Q: Ledger>(
     requires reg { IsTrue (is_name reg.now) }
     requires out { IsTrue (is_name out.now) }
     ensures { Performs (Some (Enrol reg.now name.now out.now)) (S.holds shelf.old) (S.holds shelf.new)
-        (tally S.faults S.misses S.write_faults S.blamed shelf.old)
-        (tally S.faults S.misses S.write_faults S.blamed shelf.new)
+        (S.counts shelf.old)
+        (S.counts shelf.new)
         (done_text result) }
 {
     let text = match enrolled_text_of(alloc, shelf, reg, name, out, looks) {

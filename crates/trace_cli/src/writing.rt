@@ -3,7 +3,6 @@
 ghost use Rattle.std.specs.Prelude.{◌≡◌, false, true, min, Ok, Err, IfErr, IfSome, IsTrue, OnOk, OnErr, Some};
 ghost use Rattle.std.specs.Result.{result_err};
 ghost use Rattle.text_terms.specs.Names.{is_name};
-ghost use Rattle.shelf_terms.specs.Counts.{tally};
 ghost use Rattle.outcome_terms.specs.Outcome.{make_outcome, enrol_outcome, enrolled};
 ghost use Rattle.outcome_terms.specs.Endings.{Answers, CommandCauses, IsInner, OnlyInserts, OnlyWrites, refused_as, is_bad_words, is_read_fault, is_write_fault, unwritten_blob, keeps_blobs, is_free};
 ghost use Rattle.trace_cli.specs.Failures.{ReadsOne};
@@ -64,7 +63,7 @@ pub fn enrolled_text_of<S: Shelf, Q: Ledger>(
     ensures command { refused_as is_bad_words (result_err result) ≡ false }
     ensures names { ReadsOne reg.now (result_err result) }
     ensures same { S.holds shelf.new ≡ S.holds shelf.old }
-    ensures causes { CommandCauses (tally S.faults S.misses S.write_faults S.blamed shelf.old) (tally S.faults S.misses S.write_faults S.blamed shelf.new) (result_err result) }
+    ensures causes { CommandCauses (S.counts shelf.old) (S.counts shelf.new) (result_err result) }
 {
     if out == reg {
         return Err(Refusal::SameName(Text::of(alloc, out)?));
@@ -102,7 +101,7 @@ pub fn write_blob<S: Shelf>(
     ensures refused { OnErr result (OnlyWrites (Some out.now) (S.holds shelf.old) (S.holds shelf.new)) }
     ensures lost { IfErr result (λ e. (keeps_blobs e ≡ false) × (is_free e ≡ true) × (is_bad_words e ≡ false)) }
     ensures names { IfErr result (λ e. (is_read_fault e ≡ false) × (is_write_fault e ≡ true → unwritten_blob e ≡ out.now)) }
-    ensures causes { CommandCauses (tally S.faults S.misses S.write_faults S.blamed shelf.old) (tally S.faults S.misses S.write_faults S.blamed shelf.new) (result_err result) }
+    ensures causes { CommandCauses (S.counts shelf.old) (S.counts shelf.new) (result_err result) }
 {
     match shelf.write(alloc, out, text) {
         Ok(()) => Ok(()),

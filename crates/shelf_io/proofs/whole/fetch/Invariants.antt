@@ -1,5 +1,4 @@
 use Rattle.std.proofs.Common.{◌≡◌, ◌≤◌, ◌-◌, vec_len, false}
-use Rattle.shelf_terms.specs.Counts.{tally}
 use Rattle.shelf_terms.specs.Causes.{ReadCauses}
 use Rattle.shelf_io.proofs.Fronts.{IsFront}
 use Rattle.shelf_io.proofs.whole.fetch.Given as goal
@@ -11,8 +10,7 @@ invariant-parts g l =
       short : vec_len l.whole ≤ l.limit;
       same : shelf.holds l.shelf ≡ shelf.holds l.fn.shelf;
       front : IsFront (shelf.holds l.fn.shelf) l.name l.whole.items;
-      causes : ReadCauses (tally shelf.faults shelf.misses shelf.write_faults shelf.blamed l.fn.shelf)
-          (tally shelf.faults shelf.misses shelf.write_faults shelf.blamed l.shelf) l.name false false;
+      causes : ReadCauses (shelf.counts l.fn.shelf) (shelf.counts l.shelf) l.name false false;
     }
 
 abbrev pub decreases-parts : goal.decreases-parts

@@ -1,4 +1,6 @@
-use Rattle.std.proofs.Common.{◌∙◌, sym, ap, Some, None}
+use Rattle.std.proofs.Common.{◌∙◌, sym, ap, subst, Some, None, true, false}
+use Rattle.shelf_terms.specs.Counts.{Tally}
+use Rattle.shelf_terms.specs.Causes.{ReadCauses}
 use Rattle.shelf_terms.specs.Blobs.{Blobs, blob_at, part_of}
 use Rattle.shelf_io.specs.MemShelf.{MemShelfView}
 use Rattle.shelf_io.proofs.BlobLists.{name_of, bytes_of, searched, found, not_found}
@@ -7,6 +9,9 @@ use Rattle.shelf_io.proofs.mem_shelf.MemShelfShelf.part.Goals as goal
 -- the blobs that a store shows
 abbrev shown : MemShelfView → Blobs
 shown view = view.blobs
+
+abbrev counted : MemShelfView → Tally
+counted view = view.counts
 
 pub returns-in-None-clause-bytes : goal.returns-in-None-clause-bytes
 returns-in-None-clause-bytes c =
@@ -28,3 +33,7 @@ returns-in_ok-from_slice-in-Some-clause-bytes c =
           ∙ ap (λ blob. Some (bytes_of blob)) (sym c.index.ensures);
       bytes = c.in_ok-from_slice-in-Some.ensures.items ∙ c.part_slice.ensures ∙ ap (λ blob. part_of blob c.args.from c.args.most) c.as_slice-blob.ensures.value;
     }
+
+pub returns-in-None-clause-causes : goal.returns-in-None-clause-causes
+returns-in-None-clause-causes c =
+    subst (λ (t : Tally). ReadCauses t c.missed.new.self c.args.name.now false true) (ap counted c.self.view_is) (c.missed.ensures.causes c.args.name.now)
