@@ -1,16 +1,16 @@
 //! A reader of playlists that takes pieces of bytes.
 
-ghost use Rattle.std.specs.Prelude.{◌≡◌, ◌+◌, ◌<◌, ◌^◌, ◌++◌, ℕ, List, [], true, false, length, OnOk, OnErr, IsErr, IsErrOf, if◌then◌else◌};
-ghost use Rattle.std.specs.Result.{is_ok};
+ghost use Rattle.std.specs.Prelude.{◌≡◌, ℕ, List, [], true, false, IsErrOf};
 ghost use Rattle.playlist_terms.specs.Reading.{playlist_of};
 ghost use Rattle.m3u8_text.specs.Answers.{ReadsAs};
-ghost use Rattle.m3u8_text.specs.Readers.{Reading, Stands};
+ghost use Rattle.m3u8_text.specs.Readers.{Stands};
 ghost use Rattle.m3u8_text.specs.declared.errors.PlaylistError.TheVariants as playlist_errors;
 
 use crate::errors::PlaylistError;
 use crate::media_list::MediaList;
 use crate::pieces::Pieces;
 use lists::Memory;
+use shelf_io::Taker;
 use std::alloc::Global;
 use std::marker::Model;
 
@@ -50,26 +50,6 @@ impl ListReader {
         }
     }
 
-    /// Takes the next piece.
-    pub fn take(&mut self, piece: &[u8]) -> Result<(), Memory>
-        requires { self.old.taken + length piece.now < 2 ^ 32 }
-        ensures stands { (before : List ℕ) → Stands self.old before → OnOk result (Stands self.new (before ++ piece.now)) }
-        ensures taken { self.new.taken ≡ (if is_ok result then self.old.taken + length piece.now else self.old.taken) }
-        ensures fresh { OnOk result (self.new.spent ≡ false) }
-        ensures spent { OnErr result (self.new.spent ≡ true) }
-        ensures stays { self.old.spent ≡ true → IsErr result }
-    {
-        if self.spent {
-            return Err(Memory);
-        }
-        if self.pieces.take(piece).is_err() {
-            self.spent = true;
-            return Err(Memory);
-        }
-        self.taken += piece.len() as u32;
-        Ok(())
-    }
-
     /// The playlist that the bytes spell which it took, or their first fault; want of memory where it is spent.
     pub fn finish(self) -> Result<MediaList, PlaylistError>
         ensures playlist { (bytes : List ℕ) → Stands self bytes → ReadsAs result (playlist_of bytes) }
@@ -79,5 +59,27 @@ impl ListReader {
             return Err(PlaylistError::Memory);
         }
         self.pieces.finish()
+    }
+}
+
+impl Taker for ListReader {
+    ghost use Rattle.m3u8_text.specs.Readers.{Stands};
+
+    ghost stands = { Stands };
+
+    ghost spent = { λ r. r.spent };
+
+    ghost taken = { λ r. r.taken };
+
+    fn take(&mut self, piece: &[u8]) -> Result<(), Memory> {
+        if self.spent {
+            return Err(Memory);
+        }
+        let Ok(()) = self.pieces.take(piece) else {
+            self.spent = true;
+            return Err(Memory);
+        };
+        self.taken += piece.len() as u32;
+        Ok(())
     }
 }

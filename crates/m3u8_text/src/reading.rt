@@ -7,6 +7,7 @@ ghost use Rattle.m3u8_text.specs.Answers.{ReadsAs};
 use crate::errors::PlaylistError;
 use crate::list_reader::ListReader;
 use crate::media_list::MediaList;
+use shelf_io::Taker;
 use std::alloc::Global;
 
 /// The playlist that the bytes spell.

@@ -10,19 +10,22 @@ mod folder_shelf;
 mod mem_shelf;
 mod mem_sink;
 mod name_buffer;
+mod pouring;
 mod shelf;
 mod sink;
 mod std_sink;
+mod taker;
 #[cfg(test)]
 mod tests;
 mod whole;
 
 pub use errors::{FetchError, ShelfError, SinkError};
 pub use folder_shelf::FolderShelf;
-
 pub use mem_shelf::MemShelf;
 pub use mem_sink::MemSink;
+pub use pouring::pour;
 pub use shelf::Shelf;
 pub use sink::Sink;
 pub use std_sink::StdSink;
+pub use taker::Taker;
 pub use whole::fetch;
