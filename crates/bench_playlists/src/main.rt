@@ -31,7 +31,7 @@ fn answered(rt: HostRuntime) -> u8 {
     let Ok(count) = number_text(alloc, u128::from(list.len())) else {
         return 1;
     };
-    if out.put(alloc, count.as_str().as_bytes()).is_err() {
+    if out.put(count.as_str().as_bytes()).is_err() {
         return 6;
     }
     0
