@@ -10,7 +10,7 @@ pub record IsFront (told : Option Blobs) (name bytes : List ℕ) : Type 0 where
   pub front : (blobs : Blobs) (blob : List ℕ) → told ≡ Some blobs → blob_at blobs name ≡ Some blob → bytes ≡ take (length bytes) blob
 
 -- how long a part is
-length_part : (blob : List ℕ) (from most : ℕ) → length (part_of blob from most) ≡ min most (length blob - from)
+pub length_part : (blob : List ℕ) (from most : ℕ) → length (part_of blob from most) ≡ min most (length blob - from)
 length_part blob from most = length-take most (drop from blob) ∙ ap (min most) (length-drop from blob)
 
 part_itself : (rest part : List ℕ) (most : ℕ) → part ≡ take most rest → take (length part) rest ≡ part
@@ -18,7 +18,7 @@ part_itself rest part most is =
     let short : length part ≤ most = omega (arith, length-take most rest, ap length is) in
     sym (take-take (length part) most rest short) ∙ ap (take (length part)) (sym is) ∙ take-length part
 
-front_grows : (blob whole part : List ℕ) (most : ℕ) → whole ≡ take (length whole) blob → part ≡ part_of blob (length whole) most
+pub front_grows : (blob whole part : List ℕ) (most : ℕ) → whole ≡ take (length whole) blob → part ≡ part_of blob (length whole) most
     → whole ++ part ≡ take (length (whole ++ part)) blob
 front_grows blob whole part most front is =
     sym (ap (λ n. take n blob) (length-append whole part)

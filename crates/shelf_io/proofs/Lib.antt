@@ -1,3 +1,4 @@
 pub mod Fronts
 pub mod BlobLists
 pub mod KnownBytes
+pub mod Poured

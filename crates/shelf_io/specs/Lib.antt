@@ -7,3 +7,4 @@ pub mod BlobList
 pub mod MemShelf
 pub mod Folder
 pub mod StdSink
+pub mod Pours

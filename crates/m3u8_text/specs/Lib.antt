@@ -1,0 +1,4 @@
+pub mod Answers
+pub mod Seen
+pub mod Progress
+pub mod Readers

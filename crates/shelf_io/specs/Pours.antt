@@ -1,0 +1,42 @@
+-- What a taker stands for after a blob was poured into it. This project's own.
+use Rattle.std.specs.Prelude.{◌≡◌, ℕ, ◌≤◌, Bool, true, List, [], ◌++◌, length, take, Option, Some, None, Result, Ok, Err, IfSome, ⊤}
+use Rattle.std.specs.Option.{unwrap_or}
+use Rattle.shelf_terms.specs.Blobs.{Blobs, blob_at}
+use Rattle.shelf_io.specs.Reads.{HoldsLonger}
+use Rattle.shelf_io.specs.declared.errors.FetchError.{FetchError}
+use Rattle.shelf_io.specs.declared.errors.FetchError.TheVariants as fetch
+
+-- a front of the blob under the name; nothing where there is none
+abbrev pub IsFrontOf : List ℕ → Blobs → List ℕ → Type 0
+IsFrontOf front blobs name = front ≡ take (length front) (unwrap_or (blob_at blobs name) [])
+
+-- these bytes came behind all that the taker stood for
+abbrev pub Adds : (List ℕ → Type 0) → (List ℕ → Type 0) → List ℕ → Type 0
+Adds old new bytes = (before : List ℕ) → old before → new (before ++ bytes)
+
+-- some bytes came; where the blobs are told they are a front of the blob
+pub record HasPoured (old new : List ℕ → Type 0) (told : Option Blobs) (name : List ℕ) : Type 0 where
+  pub front : List ℕ
+  pub adds : Adds old new front
+  pub is : IfSome told (λ blobs. IsFrontOf front blobs name)
+
+-- the whole blob came
+pub record HasPouredWhole (old new : List ℕ → Type 0) (blobs : Blobs) (name : List ℕ) (limit : ℕ) : Type 0 where
+  pub blob : List ℕ
+  pub held : blob_at blobs name ≡ Some blob
+  pub within : length blob ≤ limit
+  pub adds : Adds old new blob
+
+-- By the answer: where the blobs are told, the whole blob came, or it is too long, or there is none. After a refusal other than
+-- want of memory a front of it came.
+abbrev pub PourGives : (List ℕ → Type 0) → (List ℕ → Type 0) → Option Blobs → List ℕ → ℕ → Result (Unit {0}) FetchError → Type 0
+PourGives old new told name limit (Ok _) = IfSome told (λ blobs. HasPouredWhole old new blobs name limit)
+PourGives old new told name limit (Err fetch.Missing) = IfSome told (λ blobs. blob_at blobs name ≡ None) × HasPoured old new told name
+PourGives old new told name limit (Err fetch.TooLong) = IfSome told (λ blobs. HoldsLonger blobs name limit) × HasPoured old new told name
+PourGives old new told name limit (Err fetch.Fault) = HasPoured old new told name
+PourGives old new told name limit (Err fetch.Memory) = ⊤
+
+-- want of memory alone spends a taker
+abbrev pub IsSpentOnlyBefore : Bool → Bool → Result (Unit {0}) FetchError → Type 0
+IsSpentOnlyBefore old new (Err fetch.Memory) = ⊤
+IsSpentOnlyBefore old new _ = new ≡ true → old ≡ true
