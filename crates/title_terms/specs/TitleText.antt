@@ -8,8 +8,9 @@ use Rattle.hex.specs.Hex.{encode_lower, decode_sized}
 use Rattle.text_terms.specs.Names.{is_plain}
 use Rattle.text_terms.specs.Numbers.{number_of}
 use Rattle.form_terms.specs.declared.fault.LineFault.{LineFault}
+use Rattle.form_terms.specs.declared.fault.RowKinds.{RowKinds}
 use Rattle.form_terms.specs.TextLines.{line, number_text, after_word}
-use Rattle.form_terms.specs.Forms.{Form, RowKinds, ◌>>=◌, ◌>>◌, give, require, row, number_row, rows, the_end, read_by}
+use Rattle.form_terms.specs.Forms.{Form, ◌>>=◌, ◌>>◌, give, require, row, number_row, rows, the_end, read_by}
 use Rattle.playlist_terms.specs.Playlists.{PlaylistSegment, Playlist, is_segment_uri}
 use Rattle.title_terms.specs.declared.fault.TitleKind.{TitleKind}
 use Rattle.title_terms.specs.declared.fault.TitleKind.TheVariants as kinds
