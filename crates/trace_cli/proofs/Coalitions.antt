@@ -7,7 +7,7 @@ use Rattle.code_terms.specs.WordText.{word_of}
 use Rattle.code_terms.proofs.WordLength.{word_of-length}
 use Rattle.register_terms.specs.Enrolment.{Enrolment}
 use Rattle.register_terms.specs.RegisterText.{register_of}
-use Rattle.register_terms.proofs.Read.{read_was_written}
+use Rattle.register_terms.proofs.Texts.{read_was_written}
 use Rattle.desk_terms.specs.Findings.{is_allowed_bound, not_enough}
 use Rattle.coalition_terms.proofs.Tracing.{traced}
 use Rattle.outcome_terms.specs.Reports.{IsReport}
