@@ -31,7 +31,7 @@ fn curve_of<F: Field, P: Ledger>(
 
 // So many points with so many first coordinates, which differ as pairs where they are few enough.
 fn points_of<F: Field>(alloc: Global, count: u8, columns: u8) -> Option<Vec<(F, F)>>
-    requires { 1 ≤ columns }
+    requires { 15 ≤ columns }
 {
     let mut points = Vec::new(alloc);
     'points: for i in 0..count {
@@ -64,7 +64,9 @@ fn vanishes<F: Field, P: Ledger>(
 // Whether the curve through two points with the second coordinate 5 is a multiple of y + 5.
 fn meets_a_line<F: Field, P: Ledger>(alloc: Global, prods: &mut Steps<P>) -> Option<bool> {
     let five = F::of(5)?;
-    let points = [(F::of(0)?, five), (F::of(1)?, five)];
+    let mut points = Vec::new(alloc);
+    points.push((F::of(0)?, five)).ok()?;
+    points.push((F::of(1)?, five)).ok()?;
     let q = curve_of(alloc, 2, 1, &points, prods)?;
     let y = q.coef(0, 1);
     Some(y != F::zero() && q.coef(0, 0) == y.mul(five, prods) && q.coef(1, 0) == F::zero())

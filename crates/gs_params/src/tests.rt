@@ -19,6 +19,16 @@ fn chooses_parameters(rt: HostRuntime) {
     assert_eq!(rt; numbers(5, 3, 39), Some([4, 39, 13, 12, 155, 3042, 3081]));
     assert_eq!(rt; numbers(3, 6, 78), Some([2, 78, 13, 12, 156, 6084, 6162]));
     assert_eq!(rt; numbers(5, 3, 200), Some([4, 200, 67, 1, 39, 200, 210]));
+    assert_eq!(rt; numbers(13, 1, 13), Some([12, 13, 13, 12, 151, 1014, 1027]));
+    assert_eq!(rt;
+        numbers(13, 1, 1024),
+        Some([12, 1024, 1024, 1, 151, 1024, 1027])
+    );
+    assert_eq!(rt; numbers(2, 8, 65), Some([1, 65, 9, 4, 36, 650, 666]));
+    assert_eq!(rt;
+        numbers(2, 8, 1024),
+        Some([1, 1024, 128, 1, 45, 1024, 1035])
+    );
 }
 
 #[test]
