@@ -1,8 +1,6 @@
 -- A list of numbers that ascends is told by the numbers in it.
-use Rattle.std.proofs.Common.{◌≡◌, ◌≢◌, inl, inr, ℕ, zero, suc, ◌+◌, ◌<◌, ◌≤◌, Bool, true, false, cond, List, [], ◌∷◌, length, get_or, All, AllPairs, Contains, filter, refl, sym, ◌∙◌, ap, arith}
+use Rattle.std.proofs.Common.{◌≡◌, ◌≢◌, ℕ, zero, suc, ◌+◌, ◌<◌, ◌≤◌, Bool, true, false, cond, List, [], ◌∷◌, length, get_or, All, AllPairs, Contains, filter, refl, sym, ◌∙◌, ap, arith}
 use Rattle.std.specs.List.{range_with_len}
-use Rattle.std.specs.List.Sorted.{IsStrictlyIncreasing}
-use Rattle.std.proofs.lemmas.List.Kept.{AllPairs-from_increasing}
 
 -- the numbers from a on and below limit that pass, in ascending order
 pub record ArePassing (p : ℕ → Bool) (a limit : ℕ) (xs : List ℕ) : Type 0 where

@@ -1,5 +1,5 @@
 -- How few y-roots a curve for a word has, and how many products the decoder takes.
-use Rattle.std.proofs.Common.{◌≡◌, ◌≢◌, inl, inr, ℕ, zero, suc, ◌+◌, ◌-◌, ◌*◌, ◌<◌, ◌≤◌, sym, ◌∙◌, ap, arith}
+use Rattle.std.proofs.Common.{◌≡◌, ◌≢◌, inl, inr, ℕ, zero, suc, ◌+◌, ◌-◌, ◌*◌, ◌<◌, ◌≤◌, ap, arith}
 use Rattle.std.specs.FinMap.{empty}
 use Rattle.std.proofs.lemmas.Bool.{cases_lt}
 use Rattle.std.proofs.lemmas.Nat.{mul-le}
@@ -7,7 +7,7 @@ use Rattle.std.proofs.Math.Nat.{mul-le-mul_left, mul-le-mul_right, lt_of_mul-lt-
 use Rattle.algebra.specs.Bivariate.{Bivariate, greatest, weight_by, x_power, y_power}
 use Rattle.algebra.proofs.Entries.{greatest_at, greatest_least, greatest_reached}
 use Rattle.decoding_terms.specs.Parameters.{IsAgreement}
-use Rattle.decoder_terms.specs.Bounds.{root_bound, agreement_bound, decoding_bound}
+use Rattle.decoder_terms.specs.Bounds.{root_bound, decoding_bound}
 
 -- y counts in the weight
 y_weighs : {F : Type 0} (q : Bivariate F) (w : ℕ) → q ≢ empty → w * greatest y_power q ≤ greatest (weight_by w) q

@@ -1,7 +1,6 @@
 -- Every message that agrees with enough of the word is a y-root of the curve.
-use Rattle.std.proofs.Common.{◌≡◌, ◌≢◌, inl, inr, ℕ, ◌+◌, ◌-◌, ◌*◌, ◌^◌, ◌<◌, ◌≤◌, if◌then◌else◌, Bool, true, false, List, Option, All, AllPairs, Contains, filter, length, map, get_or, nat_le, refl, sym, ◌∙◌, ap, subst, arith}
+use Rattle.std.proofs.Common.{◌≡◌, inl, inr, ℕ, ◌+◌, ◌-◌, ◌*◌, ◌^◌, ◌<◌, ◌≤◌, if◌then◌else◌, Bool, true, false, List, Option, All, Contains, filter, length, map, get_or, nat_le, sym, ◌∙◌, ap, subst, arith}
 use Rattle.std.specs.Prelude.{bit_xor}
-use Rattle.std.specs.List.{range_with_len}
 use Rattle.std.specs.List.Sorted.{IsStrictlyIncreasing}
 use Rattle.std.proofs.Math.Nat.{mul-le-mul_left}
 use Rattle.std.proofs.Math.Pow.{pow_mono}
@@ -12,13 +11,13 @@ use Rattle.std.proofs.lemmas.List.Elements.{All-filter, All-map, filter_passes}
 use Rattle.std.proofs.lemmas.List.Kept.{IsStrictlyIncreasing-filter}
 use Rattle.algebra.specs.Ring.{Ring, IsField}
 use Rattle.algebra.specs.Roots.{AreDifferent, total}
-use Rattle.algebra.specs.Series.{IsBelow, value}
+use Rattle.algebra.specs.Series.{IsBelow}
 use Rattle.algebra.specs.Lists.{coefficients}
 use Rattle.algebra.specs.Bivariate.{Bivariate, HasMultiplicity, greatest, weight_by}
 use Rattle.algebra.proofs.CoefficientLists.{coefficients_below}
 use Rattle.gf_terms.specs.Arithmetic.{product}
-use Rattle.code_terms.specs.Symbols.{packed, symbol_of}
-use Rattle.code_terms.specs.Words.{readable, agrees, places_of, agreement_of}
+use Rattle.code_terms.specs.Symbols.{packed}
+use Rattle.code_terms.specs.Words.{readable, places_of, agreement_of}
 use Rattle.code_terms.proofs.Packing.{packed-below}
 use Rattle.rs_code.proofs.Coefficients.{numbers_below}
 use Rattle.curve_terms.specs.Agreement.{GoesThrough}
@@ -27,7 +26,7 @@ use Rattle.curve_terms.proofs.Roots.{is_root}
 use Rattle.decoding_terms.specs.Parameters.{IsAgreement}
 use Rattle.decoder_terms.specs.Decoding.{meets_threshold, decoded}
 use Rattle.decoder_terms.proofs.Decoded.{told}
-use Rattle.root_terms.specs.YRoots.{IsYRoot, AreYRoots, number_of}
+use Rattle.root_terms.specs.YRoots.{IsYRoot, AreYRoots}
 use Rattle.root_terms.proofs.Lists.{Contains-map}
 use Rattle.list_decode.specs.Points.{point_at, goes_through, ArePoints}
 use Rattle.list_decode.proofs.Kept.{Contains-filter}

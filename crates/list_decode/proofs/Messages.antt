@@ -1,5 +1,5 @@
 -- Messages as polynomials over the field: their symbols are values, and their numbers tell them.
-use Rattle.std.proofs.Common.{◌≡◌, inl, inr, ℕ, zero, suc, ◌+◌, ◌-◌, ◌*◌, ◌/◌, ◌%◌, ◌^◌, ◌<◌, ◌≤◌, ◌==◌, true, List, [], ◌∷◌, length, map, get_or, refl, sym, ◌∙◌, ap, ap₂, subst, arith}
+use Rattle.std.proofs.Common.{◌≡◌, inl, inr, ℕ, zero, suc, ◌+◌, ◌*◌, ◌/◌, ◌%◌, ◌^◌, ◌<◌, true, List, [], ◌∷◌, length, map, refl, sym, ◌∙◌, ap, ap₂, arith}
 use Rattle.std.specs.Prelude.{bit_xor}
 use Rattle.std.proofs.Math.Nat.{mod-add-div, mul-zero}
 use Rattle.std.proofs.lemmas.Bool.{cases_lt, eqb-true}
@@ -7,7 +7,7 @@ use Rattle.std.proofs.lemmas.List.{get_or-map, get_or_past, length-map}
 use Rattle.std.proofs.lemmas.Nat.{pow_pos, pow-add, div_below}
 use mathlib.Core.Path.{fun_ext}
 use Rattle.algebra.specs.Ring.{Ring}
-use Rattle.algebra.specs.Sums.{sum_below, power}
+use Rattle.algebra.specs.Sums.{power}
 use Rattle.algebra.specs.Series.{value}
 use Rattle.algebra.specs.Lists.{coefficients}
 use Rattle.algebra.proofs.Sums.{sum_none, sum_last, power_none, power_next}

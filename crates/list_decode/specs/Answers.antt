@@ -1,6 +1,6 @@
 -- What a decoder answers.
 -- Source: this project's own.
-use Rattle.std.specs.Prelude.{◌≡◌, ℕ, ◌+◌, ◌-◌, ◌<◌, ◌≤◌, nat_lt, if◌then◌else◌, List, Option, Result, Ok, Err}
+use Rattle.std.specs.Prelude.{◌≡◌, ℕ, ◌-◌, ◌≤◌, nat_lt, if◌then◌else◌, List, Option, Result, Ok, Err}
 use Rattle.code_terms.specs.Words.{readable}
 use Rattle.decoding_terms.specs.Parameters.{AreParameters, is_allowed_bound}
 use Rattle.decoder_terms.specs.Decoding.{decoded, least_readable}

@@ -1,6 +1,6 @@
 -- The points of a word: for each readable place the element of that number, and the symbol there.
 -- Source: this project's own.
-use Rattle.std.specs.Prelude.{◌≡◌, ℕ, ◌<◌, ◌==◌, if◌then◌else◌, Bool, List, Option, Some, length, take, filter, slice_index_or, All}
+use Rattle.std.specs.Prelude.{◌≡◌, ℕ, ◌<◌, ◌==◌, if◌then◌else◌, Bool, List, Option, length, take, filter, slice_index_or, All}
 use Rattle.std.specs.List.{AllPairs, range_with_len}
 use Rattle.algebra.specs.Ring.{Ring}
 use Rattle.algebra.specs.Roots.{total}

@@ -5,8 +5,6 @@ mod candidates;
 mod decode_error;
 mod decoder;
 mod points;
-#[cfg(test)]
-mod tests;
 
 pub use decode_error::DecodeError;
 pub use decoder::decode;

@@ -1,4 +1,4 @@
-use Rattle.std.proofs.Common.{◌≡◌, ◌+◌, sym, subst}
+use Rattle.std.proofs.Common.{◌+◌, sym, subst}
 use Rattle.list_decode.specs.Points.{ArePoints}
 use Rattle.list_decode.proofs.PointsMade.{point_more}
 use Rattle.list_decode.proofs.points.add_point.Goals as goal
