@@ -1,5 +1,5 @@
 //! Lists made, read and written, the faults of the format's tables, and pieces cut anywhere.
 
 mod faults;
-mod lists;
+mod made;
 mod pieces;

@@ -1,0 +1,134 @@
+-- What single lines of a title say, and that they say it again.
+use Rattle.std.proofs.Common.{◌≡◌, ◌∙◌, sym, ap, subst, ℕ, suc, ◌+◌, ◌^◌, ◌<◌, ◌≤◌, Bool, true, false, cond, eqb, nat_le, Option, Some, None, Result, Ok, Err, List, [], ◌∷◌, ◌++◌, length, length-append, get_or, take, drop, codes, refl, arith}
+use Rattle.std.specs.Prelude.{nat_lt}
+use Rattle.std.specs.Fmt.{decimal}
+use Rattle.std.specs.List.{list_all, position, position_or_len, before_first, after_first}
+use Rattle.std.specs.Str.{bytes_eq, is_utf8}
+use Rattle.std.proofs.lemmas.Bool.{eqb-true, ltb-true}
+use Rattle.std.proofs.lemmas.List.Sums.{split_at_first, passes_at_first}
+use Rattle.text_terms.specs.Numbers.{number_of}
+use Rattle.text_terms.proofs.NumberLaws.{spelling_of}
+use Rattle.hex.specs.Hex.{encode_lower, decode_sized}
+use Rattle.form_terms.specs.TextLines.{after_word}
+use Rattle.form_terms.proofs.LineLaws.{same_bytes, bytes_eq-own, after_word-is, after_word-line}
+use Rattle.playlist_terms.specs.Playlists.{PlaylistSegment}
+use Rattle.title_terms.specs.TitleText.{exactly, if_text, text_after, parted_at, parted, cut_text, cut_said, segment_text, segment_of_parts, timed_said, cut_and_timed, segment_said, spelled_so, digest_said}
+
+-- what is kept under a test
+kept : {A : Type 0} (b : Bool) (v x : A) → cond b (Some v) None ≡ Some x → (b ≡ true) × (v ≡ x)
+kept true v x is = (refl, cc)
+kept false v x is = absurd cc
+
+-- ---- words and texts
+
+pub exactly_is : (wanted text : List ℕ) (u : Unit {0}) → exactly wanted text ≡ Some u → text ≡ wanted
+exactly_is wanted text u is = same_bytes text wanted (kept (bytes_eq text wanted) tt u is).0
+
+pub exactly_again : (wanted : List ℕ) → exactly wanted wanted ≡ Some tt
+exactly_again wanted = rw (bytes_eq-own wanted) refl
+
+is_text : (o : Option (List ℕ)) (value : List ℕ) → if_text o ≡ Some value → (o ≡ Some value) × (is_utf8 value ≡ true)
+is_text None value is = absurd cc
+is_text (Some bytes) value is =
+    let found = kept (is_utf8 bytes) bytes value is in
+    (ap Some found.1, subst (λ b. is_utf8 b ≡ true) found.1 found.0)
+
+-- a word and a text behind it
+pub record IsWordAndText (word text value : List ℕ) : Type 0 where
+  pub is : text ≡ word ++ value
+  pub utf8 : is_utf8 value ≡ true
+
+pub text_after_is : (word text value : List ℕ) → text_after word text ≡ Some value → IsWordAndText word text value
+text_after_is word text value is =
+    let found = is_text (after_word word text) value is in
+    record { is = after_word-is word text value found.0; utf8 = found.1 }
+
+pub text_after_again : (word value : List ℕ) → is_utf8 value ≡ true → text_after word (word ++ value) ≡ Some value
+text_after_again word value utf8 = rw (after_word-line word value, utf8) refl
+
+-- ---- segments
+
+place_of : (here : Bool) (first i : ℕ) → cond here (Some first) None ≡ Some i → (here ≡ true) × (first ≡ i)
+place_of here first i is = kept here first i is
+
+around : (text : List ℕ) (space : ℕ) → position (λ b. eqb b 32) text ≡ Some space → text ≡ take space text ++ (codes " " ++ drop (space + 1) text)
+around text space found =
+    let p : ℕ → Bool = λ b. eqb b 32 in
+    let at = place_of (nat_lt (position_or_len p text) (length text)) (position_or_len p text) space found in
+    let inside : position_or_len p text < length text = ltb-true (position_or_len p text) (length text) at.0 in
+    let blank : get_or text (position_or_len p text) 0 ≡ 32 = eqb-true (get_or text (position_or_len p text) 0) 32 (passes_at_first p text 0 inside) in
+    let parts : text ≡ before_first p text ++ (get_or text (position_or_len p text) 0 ∷ after_first p text) = split_at_first p text 0 inside in
+    parts ∙ (λ i. take (at.1 i) text ++ (blank i ∷ drop (at.1 i + 1) text))
+
+same_pair : (x y : List ℕ × List ℕ) → (let o : Option (List ℕ × List ℕ) = Some x in o) ≡ Some y → x ≡ y
+same_pair x y is = cc
+
+parted_by : (text : List ℕ) (o : Option ℕ) (parts : List ℕ × List ℕ) → position (λ b. eqb b 32) text ≡ o → parted_at text o ≡ Some parts → text ≡ parts.0 ++ (codes " " ++ parts.1)
+parted_by text None parts found is = absurd cc
+parted_by text (Some space) parts found is =
+    let same : (take space text, drop (space + 1) text) ≡ parts = same_pair (take space text, drop (space + 1) text) parts is in
+    around text space found ∙ ap (λ (p : List ℕ × List ℕ). p.0 ++ (codes " " ++ p.1)) same
+
+pub parted_is : (text : List ℕ) (parts : List ℕ × List ℕ) → parted text ≡ Some parts → text ≡ parts.0 ++ (codes " " ++ parts.1)
+parted_is text parts is = parted_by text (position (λ b. eqb b 32) text) parts refl is
+
+second_digit : (b : Bool) (text : List ℕ) (cut : Bool) → bytes_eq text (codes "1") ≡ b → cond b (Some true) None ≡ Some cut → text ≡ cut_text cut
+second_digit true text cut is found = let so : true ≡ cut = cc in same_bytes text (codes "1") is ∙ ap cut_text so
+second_digit false text cut is found = absurd cc
+
+first_digit : (b : Bool) (text : List ℕ) (cut : Bool) → bytes_eq text (codes "0") ≡ b → cond b (Some false) (cond (bytes_eq text (codes "1")) (Some true) None) ≡ Some cut → text ≡ cut_text cut
+first_digit true text cut is found = let so : false ≡ cut = cc in same_bytes text (codes "0") is ∙ ap cut_text so
+first_digit false text cut is found = second_digit (bytes_eq text (codes "1")) text cut refl found
+
+pub cut_is : (text : List ℕ) (cut : Bool) → cut_said text ≡ Some cut → text ≡ cut_text cut
+cut_is text cut found = first_digit (bytes_eq text (codes "0")) text cut refl found
+
+pub record IsSegmentText (text : List ℕ) (s : PlaylistSegment) : Type 0 where
+  pub is : text ≡ segment_text s
+  pub utf8 : is_utf8 s.uri ≡ true
+
+by_parts : (flag timed uri : List ℕ) (cut : Option Bool) (micros : Option ℕ) (s : PlaylistSegment) → cut_said flag ≡ cut → number_of timed ≡ micros → segment_of_parts cut micros uri ≡ Some s
+    → IsSegmentText (flag ++ (codes " " ++ (timed ++ (codes " " ++ uri)))) s
+by_parts flag timed uri None micros s flagged counted is = absurd cc
+by_parts flag timed uri (Some cut) None s flagged counted is = absurd cc
+by_parts flag timed uri (Some cut) (Some micros) s flagged counted is =
+    let found = kept (is_utf8 uri) (record { micros = micros; uri = uri; cut = cut }) s is in
+    let utf8 : is_utf8 s.uri ≡ true = subst (λ (t : PlaylistSegment). is_utf8 t.uri ≡ true) found.1 found.0 in
+    let first : flag ≡ cut_text cut = cut_is flag cut flagged in
+    let second : timed ≡ decimal micros = spelling_of timed micros counted in
+    record {
+      is = (λ i. first i ++ (codes " " ++ (second i ++ (codes " " ++ uri)))) ∙ ap segment_text found.1;
+      utf8 = utf8;
+    }
+
+by_timed : (flag timed : List ℕ) (o : Option (List ℕ × List ℕ)) (s : PlaylistSegment) → parted timed ≡ o → timed_said flag o ≡ Some s → IsSegmentText (flag ++ (codes " " ++ timed)) s
+by_timed flag timed None s found is = absurd cc
+by_timed flag timed (Some parts) s found is =
+    let whole : timed ≡ parts.0 ++ (codes " " ++ parts.1) = parted_is timed parts found in
+    let segment = by_parts flag parts.0 parts.1 (cut_said flag) (number_of parts.0) s refl refl is in
+    record { is = ap (λ t. flag ++ (codes " " ++ t)) whole ∙ segment.is; utf8 = segment.utf8 }
+
+by_flag : (text : List ℕ) (o : Option (List ℕ × List ℕ)) (s : PlaylistSegment) → parted text ≡ o → cut_and_timed o ≡ Some s → IsSegmentText text s
+by_flag text None s found is = absurd cc
+by_flag text (Some parts) s found is =
+    let whole : text ≡ parts.0 ++ (codes " " ++ parts.1) = parted_is text parts found in
+    let segment = by_timed parts.0 parts.1 (parted parts.1) s refl is in
+    record { is = whole ∙ segment.is; utf8 = segment.utf8 }
+
+-- a line that says a segment is that segment's text
+pub segment_is : (text : List ℕ) (s : PlaylistSegment) → segment_said text ≡ Some s → IsSegmentText text s
+unfolding segment_said
+segment_is text s is = by_flag text (parted text) s refl is
+
+-- ---- digests
+
+spelled : {E : Type 0} (text digest : List ℕ) (r : Result (List ℕ) E) → spelled_so text r ≡ Some digest → (r ≡ Ok digest) × (text ≡ encode_lower digest)
+spelled text digest (Err e) is = absurd cc
+spelled text digest (Ok found) is =
+    let k = kept (bytes_eq (encode_lower found) text) found digest is in
+    (ap Ok k.1, sym (same_bytes (encode_lower found) text k.0) ∙ ap encode_lower k.1)
+
+-- a line that says a digest is the digest in lower case
+pub digest_is : (text digest : List ℕ) → digest_said text ≡ Some digest → text ≡ encode_lower digest
+unfolding digest_said
+digest_is text digest is = (spelled text digest (decode_sized text 32) is).1
