@@ -47,7 +47,11 @@ fn withdraw<Q: Ledger>(
 {
     match register.withdraw(name, looks) {
         Ok(_) => Ok(()),
-        Err(WithdrawError::Unknown) => Err(Refusal::Content(Fault::Unknown(Text::of(alloc, name)?))),
-        Err(WithdrawError::Already(_)) => Err(Refusal::Content(Fault::Withdrawn(Text::of(alloc, name)?))),
+        Err(WithdrawError::Unknown) => Err(Refusal::Content(Fault::Unknown(Text::of(
+            alloc, name,
+        )?))),
+        Err(WithdrawError::Already(_)) => Err(Refusal::Content(Fault::Withdrawn(Text::of(
+            alloc, name,
+        )?))),
     }
 }

@@ -8,9 +8,9 @@ ghost use Rattle.rs_code.specs.Reading.{ReadsWord};
 use crate::word::Word;
 use crate::word_error::WordError;
 use code_terms::WordFault;
-use texts::read_number;
 use std::alloc::Global;
 use std::str;
+use texts::read_number;
 
 impl Word {
     /// The word over symbols of `m` bits that the text spells: tokens with one comma between two of them, each `-` or
