@@ -1,8 +1,7 @@
 //! The same list from pieces cut anywhere, and a blob poured into a reader.
 
-use crate::{ListReader, PlaylistError, write};
-use playlist_terms::PlaylistFault;
-use shelf_io::{FetchError, MemShelf, Taker, pour};
+use crate::{ListReader, write};
+use shelf_io::{FetchError, MemShelf, pour};
 use std::alloc::Global;
 use std::test::Fail;
 
@@ -11,33 +10,6 @@ const LINES: &[u8] =
 
 const TEXT: &[u8] =
     b"#EXTM3U\n#EXT-X-VERSION:3\n#EXT-X-TARGETDURATION:6\n#EXT-X-MEDIA-SEQUENCE:0\n#EXT-X-PLAYLIST-TYPE:VOD\n#EXTINF:6.000000,\ns0.ts\n#EXT-X-ENDLIST\n";
-
-#[test]
-fn reads_pieces_cut_anywhere(rt: HostRuntime) -> Result<(), Fail> {
-    for size in [1, 2, 3, 8, 100] {
-        let mut reader = ListReader::new(rt.alloc());
-        for piece in LINES.chunks(size) {
-            reader.take(piece)?;
-        }
-        let list = reader.finish()?;
-        assert!(rt; write(rt.alloc(), &list)?.as_slice() == TEXT, "{size}");
-    }
-    Ok(())
-}
-
-#[test]
-fn keeps_the_first_fault(rt: HostRuntime) -> Result<(), Fail> {
-    let mut reader = ListReader::new(rt.alloc());
-    for piece in [b"#EXTM3U\n#EXT".as_slice(), b"INF:x\n", b"#EXT-X-MAP\n\xff"] {
-        reader.take(piece)?;
-    }
-    let wanted = PlaylistError::Line {
-        number: 2,
-        fault: PlaylistFault::Number,
-    };
-    assert_eq!(rt; reader.finish().err(), Some(wanted));
-    Ok(())
-}
 
 fn poured(alloc: Global, shelf: &mut MemShelf, limit: u64) -> Result<ListReader, FetchError> {
     let mut reader = ListReader::new(alloc);
