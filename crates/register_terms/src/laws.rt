@@ -3,7 +3,7 @@
 ghost use Rattle.std.specs.Prelude.{◌↔◌, ◌≡◌, ◌<◌, ◌*◌, ◌^◌, length, slice_get, Some, List, [], ◌∷◌, ◌++◌, ℕ, true, false, codes, Ok, Err};
 ghost use Rattle.form_terms.specs.Forms.{fault};
 ghost use Rattle.register_terms.specs.Enrolment.{Enrolment, IsValid, capacity, message_of, names_of, serial_of};
-ghost use Rattle.register_terms.specs.Rules.{empty_register, with_licensees};
+ghost use Rattle.register_terms.specs.Rules.{empty_register, with_licensees, withdrawn_at};
 ghost use Rattle.register_terms.specs.RegisterText.{IsTextOf, in_state, register_text, register_of};
 ghost use Rattle.register_terms.specs.declared.fault.RegisterKind.TheVariants.{Ending, Header, BadM, BadStatus, BadName, NameTaken};
 
@@ -11,6 +11,8 @@ ghost use Rattle.register_terms.specs.declared.fault.RegisterKind.TheVariants.{E
 pub fn worked_examples()
     ensures written { register_text (empty_register 4 2 1 0) ≡ codes "register 2\nm 4\nk 2\na 1\nb 0\n" }
     ensures enrolled { register_text (with_licensees (empty_register 4 2 1 0) (in_state true (codes "lic0") ∷ in_state false (codes "lic1") ∷ [])) ≡ codes "register 2\nm 4\nk 2\na 1\nb 0\nactive lic0\nwithdrawn lic1\n" }
+    ensures withdrawn { withdrawn_at (in_state true (codes "a") ∷ in_state true (codes "b") ∷ in_state true (codes "c") ∷ []) 1
+        ≡ in_state true (codes "a") ∷ in_state false (codes "b") ∷ in_state true (codes "c") ∷ [] }
     ensures read { register_of (codes "register 2\nm 4\nk 2\na 1\nb 0\nactive lic0\nwithdrawn lic1\n") ≡ Ok (with_licensees (empty_register 4 2 1 0) (in_state true (codes "lic0") ∷ in_state false (codes "lic1") ∷ [])) }
     ensures older { register_of (codes "register 1\nm 4\nk 2\na 1\nb 0\nlic0\nlic1\n") ≡ Ok (with_licensees (empty_register 4 2 1 0) (in_state true (codes "lic0") ∷ in_state true (codes "lic1") ∷ [])) }
     ensures few_messages { capacity (empty_register 4 2 1 0) ≡ 256 }

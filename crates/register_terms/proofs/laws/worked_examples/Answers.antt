@@ -12,6 +12,9 @@ pub returns-clause-enrolled : goal.returns-clause-enrolled
 unfolding register_text
 returns-clause-enrolled c = rw (decimal_digit 4 (lit< tt), decimal_digit 2 (lit< tt), decimal_digit 1 (lit< tt), decimal_digit 0 (lit< tt)) refl
 
+pub returns-clause-withdrawn : goal.returns-clause-withdrawn
+returns-clause-withdrawn c = refl
+
 pub returns-clause-few_messages : goal.returns-clause-few_messages
 returns-clause-few_messages c = refl
 
