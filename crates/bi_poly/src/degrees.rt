@@ -42,7 +42,7 @@ impl<F: Field> BiPoly<F> {
     }
 }
 
-// The greatest i + w j of the powers x^i that stand in the row of y^j; 0 where there are none.
+/// The greatest i + w j of the powers x^i that stand in the row of y^j; 0 where there are none.
 fn heaviest<F: Field>(row: &Row<F>, w: usize, j: usize) -> usize
     requires x { (i : ℕ) → 65536 ≤ i → coefficients F.ring row.now i ≡ F.ring.nil }
     requires y { (i : ℕ) → 4096 ≤ j → coefficients F.ring row.now i ≡ F.ring.nil }

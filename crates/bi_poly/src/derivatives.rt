@@ -31,7 +31,7 @@ impl<F: Field> BiPoly<F> {
     }
 }
 
-// The row's derivative where the binomial of j over v is odd, and else zero.
+/// The row's derivative where the binomial of j over v is odd, and else zero.
 fn derivative_where_odd<F: Field, P: Ledger>(
     row: &Row<F>,
     u: usize,
@@ -52,7 +52,7 @@ fn derivative_where_odd<F: Field, P: Ledger>(
     }
 }
 
-// The Hasse derivative of order u at a of the polynomial in x with these coefficients.
+/// The Hasse derivative of order u at a of the polynomial in x with these coefficients.
 fn derivative<F: Field, P: Ledger>(coefs: &[F], u: usize, a: F, prods: &mut Steps<P>) -> F
     ensures value { result ≡ derivative_sum F.ring (length coefs.now) coefs.now u a }
     ensures products { prods.new ≤ prods.old + length coefs.now }
@@ -64,7 +64,7 @@ fn derivative<F: Field, P: Ledger>(coefs: &[F], u: usize, a: F, prods: &mut Step
     value
 }
 
-// The coefficient where the binomial of i over u is odd, and else zero.
+/// The coefficient where the binomial of i over u is odd, and else zero.
 fn where_odd<F: Field>(coef: F, i: usize, u: usize) -> F
     ensures { result ≡ (if has_bits i u then coef else F.ring.nil) }
 {

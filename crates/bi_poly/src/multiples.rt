@@ -36,7 +36,7 @@ impl<F: Field> BiPoly<F> {
     }
 }
 
-// Makes the first rows as long as those of the others are without zeros at their ends.
+/// Makes the first rows as long as those of the others are without zeros at their ends.
 fn grow_all<F: Field>(
     rows: &mut Vec<Row<F>>,
     others: &[Row<F>],
@@ -54,7 +54,7 @@ fn grow_all<F: Field>(
     Ok(())
 }
 
-// Adds the factor times the first of the others to the first rows.
+/// Adds the factor times the first of the others to the first rows.
 fn add_rows<F: Field, P: Ledger>(
     rows: &mut Vec<Row<F>>,
     others: &[Row<F>],

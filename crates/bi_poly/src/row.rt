@@ -31,14 +31,14 @@ impl<F: Field> Row<F> {
         }
     }
 
-    // The row with these coefficients, which it takes over.
+    /// The row with these coefficients, which it takes over.
     pub(crate) fn over(coefs: Vec<F>) -> Row<F>
         ensures { result ≡ coefs.items }
     {
         Row { coefs }
     }
 
-    // The same row in memory of its own.
+    /// The same row in memory of its own.
     pub(crate) fn copy(&self, alloc: Global) -> Result<Row<F>, AllocError>
         ensures { IfOk result (λ row. row ≡ self.now) }
     {
@@ -53,14 +53,14 @@ impl<F: Field> Row<F> {
         self.coefs.as_slice()
     }
 
-    // The coefficients without zeros at the end.
+    /// The coefficients without zeros at the end.
     pub(crate) fn trimmed(&self) -> &[F]
         ensures { IsListOf F.ring (coefficients F.ring self.now) result.now }
     {
         trimmed(self.coefs.as_slice())
     }
 
-    // The coefficient of x^i, which is zero past the end.
+    /// The coefficient of x^i, which is zero past the end.
     pub(crate) fn coef(&self, i: usize) -> F
         ensures { result ≡ coefficients F.ring self.now i }
     {
@@ -70,7 +70,7 @@ impl<F: Field> Row<F> {
         }
     }
 
-    // Makes the row so long, by zeros at the end.
+    /// Makes the row so long, by zeros at the end.
     pub(crate) fn grow(&mut self, len: usize) -> Result<(), AllocError>
         ensures same { (k : ℕ) → coefficients F.ring self.new k ≡ coefficients F.ring self.old k }
         ensures ok { OnOk result (len ≤ length self.new) }
@@ -81,7 +81,7 @@ impl<F: Field> Row<F> {
         Ok(())
     }
 
-    // Puts the value in place of the coefficient of x^i.
+    /// Puts the value in place of the coefficient of x^i.
     pub(crate) fn put(&mut self, i: usize, value: F)
         requires { i < length self.old }
         ensures { self.new ≡ set self.old i value }
@@ -89,7 +89,7 @@ impl<F: Field> Row<F> {
         self.coefs[i] = value;
     }
 
-    // Adds the factor times x^at times these coefficients.
+    /// Adds the factor times x^at times these coefficients.
     pub(crate) fn add_shifted<P: Ledger>(
         &mut self,
         source: &[F],
@@ -110,7 +110,7 @@ impl<F: Field> Row<F> {
         add_shifted(self.coefs.as_mut_slice(), source, factor, at, prods);
     }
 
-    // Drops the first coefficients.
+    /// Drops the first coefficients.
     pub(crate) fn drop_first(&mut self, count: usize)
         requires { count ≤ length self.old }
         ensures { self.new ≡ drop count self.old }

@@ -7,7 +7,7 @@ use crate::row::Row;
 use gf2m::Field;
 use std::alloc::{AllocError, Global};
 
-// The coefficient of x^i y^j.
+/// The coefficient of x^i y^j.
 pub(crate) fn cell<F: Field>(rows: &[Row<F>], i: usize, j: usize) -> F
     ensures { result ≡ cell F.ring rows.now i j }
 {
@@ -17,7 +17,7 @@ pub(crate) fn cell<F: Field>(rows: &[Row<F>], i: usize, j: usize) -> F
     }
 }
 
-// How many rows there are up to the last with a coefficient that is not zero.
+/// How many rows there are up to the last with a coefficient that is not zero.
 pub(crate) fn height<F: Field>(rows: &[Row<F>]) -> usize
     ensures within { result ≤ length rows.now }
     ensures zeros { (i j : ℕ) → result ≤ j → cell F.ring rows.now i j ≡ F.ring.nil }
@@ -31,7 +31,7 @@ pub(crate) fn height<F: Field>(rows: &[Row<F>]) -> usize
     0
 }
 
-// Makes so many rows, by empty ones at the end.
+/// Makes so many rows, by empty ones at the end.
 pub(crate) fn grow_rows<F: Field>(
     rows: &mut Vec<Row<F>>,
     alloc: Global,

@@ -50,7 +50,7 @@ impl<F: Field> BiPoly<F> {
     }
 }
 
-// The first powers of g, from g^0 on.
+/// The first powers of g, from g^0 on.
 fn powers<F: Field, P: Ledger>(
     alloc: Global,
     g: F,
@@ -71,7 +71,7 @@ fn powers<F: Field, P: Ledger>(
     Ok(powers)
 }
 
-// The row of y^h in Q(x, x y + g), from as many rows as there are powers of g.
+/// The row of y^h in Q(x, x y + g), from as many rows as there are powers of g.
 fn shifted_row<F: Field, P: Ledger>(
     alloc: Global,
     rows: &[Row<F>],
@@ -97,7 +97,7 @@ fn shifted_row<F: Field, P: Ledger>(
     Ok(row)
 }
 
-// x^at times the polynomial with these coefficients.
+/// x^at times the polynomial with these coefficients.
 fn raised<F: Field>(alloc: Global, coefs: &[F], at: usize) -> Result<Row<F>, AllocError>
     ensures before { IfOk result (λ row. (k : ℕ) → k < at → coefficients F.ring row k ≡ F.ring.nil) }
     ensures from { IfOk result (λ row. (k : ℕ) →
@@ -109,7 +109,7 @@ fn raised<F: Field>(alloc: Global, coefs: &[F], at: usize) -> Result<Row<F>, All
     Ok(Row::over(row))
 }
 
-// Adds the power of g times these coefficients from x^h on, where the binomial of j over h is odd.
+/// Adds the power of g times these coefficients from x^h on, where the binomial of j over h is odd.
 fn add_term<F: Field, P: Ledger>(
     row: &mut Row<F>,
     coefs: &[F],

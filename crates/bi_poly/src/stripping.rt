@@ -26,7 +26,7 @@ impl<F: Field> BiPoly<F> {
     }
 }
 
-// The least power of x with a coefficient that is not zero, or 65,536 where there is none before it.
+/// The least power of x with a coefficient that is not zero, or 65,536 where there is none before it.
 fn least_power<F: Field>(rows: &[Row<F>]) -> usize
     ensures zeros { (i j : ℕ) → i < result → cell F.ring rows.now i j ≡ F.ring.nil }
     ensures reached { result < 65536 → (j : ℕ) × (cell F.ring rows.now result j ≢ F.ring.nil) }
@@ -38,7 +38,7 @@ fn least_power<F: Field>(rows: &[Row<F>]) -> usize
     least
 }
 
-// The first power of x before the bound with a coefficient that is not zero, or else the bound.
+/// The first power of x before the bound with a coefficient that is not zero, or else the bound.
 fn first_power<F: Field>(coefs: &[F], bound: usize) -> usize
     ensures within { result ≤ bound }
     ensures zeros { (i : ℕ) → i < result → coefficients F.ring coefs.now i ≡ F.ring.nil }
@@ -52,7 +52,7 @@ fn first_power<F: Field>(coefs: &[F], bound: usize) -> usize
     bound
 }
 
-// Drops the coefficients of the first powers of x.
+/// Drops the coefficients of the first powers of x.
 fn drop_powers<F: Field>(rows: &mut Vec<Row<F>>, count: usize)
     ensures { (i j : ℕ) → cell F.ring rows.new.items i j ≡ cell F.ring rows.old.items (i + count) j }
 {

@@ -11,7 +11,7 @@ use gf2m::{Field, Ledger, Steps};
 use std::alloc::{AllocError, Global};
 use term_lists::Exponents;
 
-// The rows of all points. All exponents are below e.
+/// The rows of all points. All exponents are below e.
 pub(crate) fn equations<F: Field, P: Ledger>(
     alloc: Global,
     terms: &[Exponents],
@@ -33,7 +33,7 @@ pub(crate) fn equations<F: Field, P: Ledger>(
     Ok(rows)
 }
 
-// Adds the rows of one point.
+/// Adds the rows of one point.
 fn add_equations<F: Field, P: Ledger>(
     rows: &mut Vec<Vec<F>>,
     alloc: Global,
@@ -61,7 +61,7 @@ fn add_equations<F: Field, P: Ledger>(
     Ok(())
 }
 
-// The row of one order at the point to whose coordinates these powers belong.
+/// The row of one order at the point to whose coordinates these powers belong.
 fn equation<F: Field, P: Ledger>(
     alloc: Global,
     terms: &[Exponents],

@@ -39,7 +39,7 @@ impl Interpolate for Linear {
     }
 }
 
-// A vector that is not zero and solves the system.
+/// A vector that is not zero and solves the system.
 fn solution<F: Field, P: Ledger>(
     alloc: Global,
     terms: &[Exponents],

@@ -7,7 +7,7 @@ ghost use Rattle.bi_poly.specs.Rows.{ArePowers};
 use gf2m::{Field, Ledger, Steps};
 use std::alloc::{AllocError, Global};
 
-// The first powers of an element, from the power 0 on.
+/// The first powers of an element, from the power 0 on.
 pub(crate) fn powers<F: Field, P: Ledger>(
     alloc: Global,
     element: F,
@@ -27,7 +27,7 @@ pub(crate) fn powers<F: Field, P: Ledger>(
     Ok(powers)
 }
 
-// The derivative of this order of x^exponent at the element whose powers these are.
+/// The derivative of this order of x^exponent at the element whose powers these are.
 pub(crate) fn power_derivative<F: Field>(powers: &[F], exponent: usize, order: usize) -> F
     requires { exponent < length powers.now }
     ensures { (element : F) → ArePowers F.ring element powers.now → result ≡ weight F.ring element exponent order }

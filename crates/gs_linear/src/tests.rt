@@ -11,7 +11,7 @@ use std::marker::Brand;
 use std::process::Abort;
 use std::sync::ledger::Blank;
 
-// The curve for codes of dimension k and coalitions of c.
+/// The curve for codes of dimension k and coalitions of c.
 fn curve_of<F: Field, P: Ledger>(
     alloc: Global,
     k: u32,
@@ -29,7 +29,7 @@ fn curve_of<F: Field, P: Ledger>(
     Linear.curve(alloc, points, &chosen, prods).ok()
 }
 
-// So many points with so many first coordinates, which differ as pairs where they are few enough.
+/// So many points with so many first coordinates, which differ as pairs where they are few enough.
 fn points_of<F: Field>(alloc: Global, count: u8, columns: u8) -> Option<Vec<(F, F)>>
     requires { 15 ≤ columns }
 {
@@ -42,7 +42,7 @@ fn points_of<F: Field>(alloc: Global, count: u8, columns: u8) -> Option<Vec<(F, 
     Some(points)
 }
 
-// Whether all derivatives of an order below s are zero at all points.
+/// Whether all derivatives of an order below s are zero at all points.
 fn vanishes<F: Field, P: Ledger>(
     q: &BiPoly<F>,
     points: &[(F, F)],
@@ -61,7 +61,7 @@ fn vanishes<F: Field, P: Ledger>(
     true
 }
 
-// Whether the curve through two points with the second coordinate 5 is a multiple of y + 5.
+/// Whether the curve through two points with the second coordinate 5 is a multiple of y + 5.
 fn meets_a_line<F: Field, P: Ledger>(alloc: Global, prods: &mut Steps<P>) -> Option<bool> {
     let five = F::of(5)?;
     let mut points = Vec::new(alloc);
@@ -72,7 +72,7 @@ fn meets_a_line<F: Field, P: Ledger>(alloc: Global, prods: &mut Steps<P>) -> Opt
     Some(y != F::zero() && q.coef(0, 0) == y.mul(five, prods) && q.coef(1, 0) == F::zero())
 }
 
-// Whether the curve through these points is zero at each with multiplicity s, and weighs less than e.
+/// Whether the curve through these points is zero at each with multiplicity s, and weighs less than e.
 fn meets<F: Field, P: Ledger>(
     alloc: Global,
     k: u32,

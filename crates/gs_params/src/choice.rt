@@ -39,7 +39,7 @@ pub fn params(k: u32, c: u32, r: u32) -> Result<Params, ParamError>
     Ok(chosen(w, c, r))
 }
 
-// The parameters where there are some.
+/// The parameters where there are some.
 fn chosen(w: u32, c: u32, r: u32) -> Params
     requires enough { AreEnough w c r }
     requires bound { c ≤ 8 }
@@ -66,7 +66,7 @@ fn chosen(w: u32, c: u32, r: u32) -> Params
     }
 }
 
-// The least number that is at least a c-th part of r.
+/// The least number that is at least a c-th part of r.
 fn agreement(c: u32, r: u32) -> u32
     requires some { 1 ≤ c }
     requires few { c ≤ 8 }
@@ -77,7 +77,7 @@ fn agreement(c: u32, r: u32) -> u32
     (r + (c - 1)) / c
 }
 
-// The least multiplicity that does.
+/// The least multiplicity that does.
 fn multiplicity(w: u32, c: u32, r: u32, t: u32) -> u32
     requires enough { AreEnough w c r }
     requires bound { c ≤ 8 }
@@ -98,7 +98,7 @@ fn multiplicity(w: u32, c: u32, r: u32, t: u32) -> u32
     s
 }
 
-// How many equations say that a curve has multiplicity s at each of r points.
+/// How many equations say that a curve has multiplicity s at each of r points.
 fn equations(r: u32, s: u32) -> u32
     requires points { r ≤ 1024 }
     requires few { s ≤ 12 }
@@ -107,7 +107,7 @@ fn equations(r: u32, s: u32) -> u32
     r * (s * (s + 1)) / 2
 }
 
-// The least weight below which there are more terms than equations, and how many terms those are.
+/// The least weight below which there are more terms than equations, and how many terms those are.
 fn weight(w: u32, rows: u32) -> (u32, u32)
     requires some { 1 ≤ w }
     requires light { w ≤ 12 }

@@ -4,7 +4,7 @@ ghost use Rattle.std.specs.Prelude.{◌≤◌};
 
 use crate::{ParamError, params};
 
-// What `params` gives, as numbers; none where it refuses.
+/// What `params` gives, as numbers; none where it refuses.
 fn numbers(k: u32, c: u32, r: u32) -> Option<[u32; 7]>
     requires least_k { 2 ≤ k }
     requires most_k { k ≤ 13 }

@@ -10,8 +10,8 @@ use crate::pivot::Pivot;
 use gf2m::{Field, Ledger, Steps};
 use std::alloc::{AllocError, Global};
 
-// Takes the rows out from the last to the first, and clears those that are left in the column of the row's first entry
-// that is not zero.
+/// Takes the rows out from the last to the first, and clears those that are left in the column of the row's first entry
+/// that is not zero.
 pub(crate) fn eliminate<F: Field, P: Ledger>(
     alloc: Global,
     mut rows: Vec<Vec<F>>,
@@ -46,7 +46,7 @@ pub(crate) fn eliminate<F: Field, P: Ledger>(
     Ok(pivots)
 }
 
-// The first column in which the row is not zero; none for a row of zeros.
+/// The first column in which the row is not zero; none for a row of zeros.
 fn leading<F: Field>(row: &[F]) -> Option<usize>
     ensures none { IsNone result → IsZero F.ring (length row.now) (coefficients F.ring row.now) }
     ensures some { IfSome result (λ column. (column < length row.now) × (coefficients F.ring row.now column ≢ F.ring.nil)) }
@@ -60,7 +60,7 @@ fn leading<F: Field>(row: &[F]) -> Option<usize>
     None
 }
 
-// The inverse of the row's entry in the column.
+/// The inverse of the row's entry in the column.
 fn inverse_at<F: Field, P: Ledger>(row: &[F], column: usize, prods: &mut Steps<P>) -> F
     requires column { column < length row.now }
     requires entry { coefficients F.ring row.now column ≢ F.ring.nil }
@@ -70,7 +70,7 @@ fn inverse_at<F: Field, P: Ledger>(row: &[F], column: usize, prods: &mut Steps<P
     row[column].inv(prods).unwrap()
 }
 
-// Clears the row in the pivot's column.
+/// Clears the row in the pivot's column.
 fn clear<F: Field, P: Ledger>(
     row: &mut Vec<F>,
     pivot: &[F],
@@ -87,7 +87,7 @@ fn clear<F: Field, P: Ledger>(
     F::add_multiple(row, pivot, factor, prods);
 }
 
-// Clears all rows in the pivot's column.
+/// Clears all rows in the pivot's column.
 fn clear_all<F: Field, P: Ledger>(
     rows: &mut [Vec<F>],
     pivot: &[F],

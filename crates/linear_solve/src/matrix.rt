@@ -120,7 +120,7 @@ impl<F: Field> Matrix<F> {
     }
 }
 
-// A row of zeros.
+/// A row of zeros.
 pub(crate) fn zero_row<F: Field>(alloc: Global, columns: usize) -> Result<Vec<F>, AllocError>
     ensures { IfOk result (λ row. row.items ≡ replicate columns F.ring.nil) }
 {

@@ -10,7 +10,7 @@ use crate::pivot::Pivot;
 use gf2m::{Field, Ledger, Steps};
 use std::alloc::{AllocError, Global};
 
-// A column that is no pivot's.
+/// A column that is no pivot's.
 pub(crate) fn free_column<F: Field>(pivots: &[Pivot<F>], columns: usize) -> Option<usize>
     ensures some { IfSome result (λ free.
         (free < columns) × ((j : ℕ) → j < length pivots.now → slice_index (columns_of pivots.now) j ≢ free)) }
@@ -25,7 +25,7 @@ pub(crate) fn free_column<F: Field>(pivots: &[Pivot<F>], columns: usize) -> Opti
     None
 }
 
-// Whether the column is no pivot's.
+/// Whether the column is no pivot's.
 fn is_free<F: Field>(pivots: &[Pivot<F>], column: usize) -> bool
     ensures { IsTrue result ↔ ((j : ℕ) → j < length pivots.now → slice_index (columns_of pivots.now) j ≢ column) }
 {
@@ -37,7 +37,7 @@ fn is_free<F: Field>(pivots: &[Pivot<F>], column: usize) -> bool
     true
 }
 
-// The row's sum of products with the vector.
+/// The row's sum of products with the vector.
 fn row_times<F: Field, P: Ledger>(row: &[F], vector: &[F], prods: &mut Steps<P>) -> F
     requires { length row.now ≡ length vector.now }
     ensures value { result ≡ row_times F.ring (length row.now) (coefficients F.ring row.now) (coefficients F.ring vector.now) }
@@ -50,7 +50,7 @@ fn row_times<F: Field, P: Ledger>(row: &[F], vector: &[F], prods: &mut Steps<P>)
     sum
 }
 
-// The vector with 1 in the free column that the pivots' rows send to zero.
+/// The vector with 1 in the free column that the pivots' rows send to zero.
 pub(crate) fn solution<F: Field, P: Ledger>(
     alloc: Global,
     pivots: &[Pivot<F>],
@@ -75,7 +75,7 @@ pub(crate) fn solution<F: Field, P: Ledger>(
     Ok(vector)
 }
 
-// Changes the vector in the pivot's column so that the pivot's row sends it to zero.
+/// Changes the vector in the pivot's column so that the pivot's row sends it to zero.
 fn settle<F: Field, P: Ledger>(pivot: &Pivot<F>, vector: &mut Vec<F>, prods: &mut Steps<P>)
     requires column { pivot.now.column < length vector.old.items }
     requires length { length pivot.now.row.items ≡ length vector.old.items }

@@ -9,7 +9,7 @@ use std::marker::Brand;
 use std::process::Abort;
 use std::sync::ledger::Blank;
 
-// The matrix with these entries, row by row.
+/// The matrix with these entries, row by row.
 fn matrix_of<F: Field>(alloc: Global, columns: usize, numbers: &[u8]) -> Option<Matrix<F>> {
     if columns == 0 || columns > 4 || numbers.len() > 12 || numbers.len() < columns {
         return None;
@@ -22,7 +22,7 @@ fn matrix_of<F: Field>(alloc: Global, columns: usize, numbers: &[u8]) -> Option<
     Some(matrix)
 }
 
-// Whether the vector is a multiple of these numbers that is not zero; they begin with 1 or with zeros and 1.
+/// Whether the vector is a multiple of these numbers that is not zero; they begin with 1 or with zeros and 1.
 fn is_multiple<F: Field, P: Ledger>(
     vector: &Elements<F>,
     numbers: &[u8],
@@ -38,7 +38,7 @@ fn is_multiple<F: Field, P: Ledger>(
     Some(factor != F::zero() && vector.len() == numbers.len())
 }
 
-// Whether the kernel has just the multiples of these numbers, or for no numbers just zero.
+/// Whether the kernel has just the multiples of these numbers, or for no numbers just zero.
 fn has_kernel<F: Field, P: Ledger>(
     alloc: Global,
     columns: usize,
@@ -55,7 +55,7 @@ fn has_kernel<F: Field, P: Ledger>(
     }
 }
 
-// The rank of the matrix with these entries.
+/// The rank of the matrix with these entries.
 fn rank_of<F: Field, P: Ledger>(
     alloc: Global,
     columns: usize,

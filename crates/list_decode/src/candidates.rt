@@ -36,7 +36,7 @@ pub fn kept<F: Field, P: Ledger>(
     Ok(messages)
 }
 
-// Puts the message behind the others where it is one of them.
+/// Puts the message behind the others where it is one of them.
 fn keep(messages: &mut Vec<Message>, message: Message, keeps: bool) -> Result<(), AllocError>
     ensures { OnOk result (messages.new.items ≡ messages.old.items ++ (if keeps then message ∷ [] else [])) }
 {
@@ -46,7 +46,7 @@ fn keep(messages: &mut Vec<Message>, message: Message, keeps: bool) -> Result<()
     Ok(())
 }
 
-// The message with these coefficients.
+/// The message with these coefficients.
 fn message_of<F: Field>(alloc: Global, code: &Code<F>, root: &Poly<F>) -> Result<Message, Memory>
     requires { length root.now ≤ code.now.dimension }
     ensures value { IfOk result (λ message. message ≡ packed F.BITS (map F.number root.now)) }
@@ -58,7 +58,7 @@ fn message_of<F: Field>(alloc: Global, code: &Code<F>, root: &Poly<F>) -> Result
     Ok(code.pack(&coefs))
 }
 
-// Whether the message agrees with at least a c-th part of the readable places.
+/// Whether the message agrees with at least a c-th part of the readable places.
 fn meets<F: Field, P: Ledger>(
     code: &Code<F>,
     word: &Word,

@@ -22,7 +22,7 @@ pub fn points<F: Field>(alloc: Global, word: &Word) -> Result<Vec<(F, F)>, Memor
     Ok(points)
 }
 
-// Puts the point of this slot behind the others, if it holds a symbol.
+/// Puts the point of this slot behind the others, if it holds a symbol.
 fn add_slot<F: Field>(
     points: &mut Vec<(F, F)>,
     place: u32,
@@ -40,7 +40,7 @@ fn add_slot<F: Field>(
     }
 }
 
-// Puts the point with these numbers behind the others.
+/// Puts the point with these numbers behind the others.
 fn add_point<F: Field>(points: &mut Vec<(F, F)>, place: u32, symbol: u8) -> Result<(), AllocError>
     requires place { place < F.Q }
     requires symbol { symbol < F.Q }
@@ -54,7 +54,7 @@ fn add_point<F: Field>(points: &mut Vec<(F, F)>, place: u32, symbol: u8) -> Resu
     Ok(())
 }
 
-// The element with this number.
+/// The element with this number.
 fn element<F: Field>(number: u8) -> F
     requires { number < F.Q }
     ensures { F.number result ≡ number }

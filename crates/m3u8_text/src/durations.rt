@@ -21,7 +21,7 @@ pub(crate) fn duration(value: &[u8]) -> Option<u64>
     micros(seconds, fraction)
 }
 
-// The microseconds of seconds and the digits behind the point.
+/// The microseconds of seconds and the digits behind the point.
 #[tactic(auto, using(crate::proofs::Digits::all_digits_test))]
 fn micros(seconds: &[u8], fraction: &[u8]) -> Option<u64>
     ensures { result ≡ micros_of_parts seconds.now fraction.now }
@@ -33,7 +33,7 @@ fn micros(seconds: &[u8], fraction: &[u8]) -> Option<u64>
     Some(whole * MICROS_A_SECOND + millionths(fraction))
 }
 
-// The first six digits behind the point, where a missing one is a zero.
+/// The first six digits behind the point, where a missing one is a zero.
 fn millionths(fraction: &[u8]) -> u64
     requires { all_ascii_digits fraction.now ≡ true }
     ensures value { result ≡ digits_value 10 (first_six fraction.now) }

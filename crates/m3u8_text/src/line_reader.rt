@@ -65,7 +65,7 @@ impl LineReader {
     }
 }
 
-// What is wrong with the first line.
+/// What is wrong with the first line.
 fn start_fault(line: MediaLine<'_>) -> Option<PlaylistFault>
     ensures { result ≡ start_fault (said line.entry) }
 {

@@ -167,7 +167,7 @@ impl ListState {
         self.cut = true;
     }
 
-    // The line of the duration has this number.
+    /// The line of the duration has this number.
     fn take_duration(&mut self, value: Option<u64>, line: u32) -> Result<(), PlaylistFault>
         requires { ForSome value (λ n. n < 10 ^ 16) }
         ensures { (before : List said.MediaLine) → line ≡ suc (length before) → self.old ≡ progress_of before → Takes result before self.new (said.Duration value) }

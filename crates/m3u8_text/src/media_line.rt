@@ -50,7 +50,7 @@ pub(crate) fn media_line(text: &[u8]) -> MediaLine<'_>
     }
 }
 
-// What a tag says.
+/// What a tag says.
 #[tactic(auto, unfolding(playlist_terms::specs::MediaLines::media_tag))]
 fn media_tag<'a>(name: &[u8], value: &[u8]) -> MediaLine<'a>
     ensures { said result ≡ media_tag name.now value.now }
@@ -80,14 +80,14 @@ fn media_tag<'a>(name: &[u8], value: &[u8]) -> MediaLine<'a>
     }
 }
 
-// Whether the value of a key says that nothing is encrypted.
+/// Whether the value of a key says that nothing is encrypted.
 fn is_no_key(value: &[u8]) -> bool
     ensures { result ≡ is_no_key value.now }
 {
     value == b"METHOD=NONE".as_slice() || value.starts_with(b"METHOD=NONE,".as_slice())
 }
 
-// Whether the profile leaves the tag out.
+/// Whether the profile leaves the tag out.
 fn is_outside(name: &[u8]) -> bool
     ensures { result ≡ is_outside name.now }
 {

@@ -55,7 +55,7 @@ impl MediaList {
         })
     }
 
-    // The list of a text that says nothing.
+    /// The list of a text that says nothing.
     pub(crate) fn empty(alloc: Global) -> MediaList
         ensures { result ≡ record { version = 1; target = 0; sequence = 0; segments = [] } }
     {

@@ -53,7 +53,7 @@ impl Pieces {
         self.keep(rest)
     }
 
-    // Takes the bytes up to a line feed, and the line feed.
+    /// Takes the bytes up to a line feed, and the line feed.
     fn end_line(&mut self, end: &[u8]) -> Result<(), Memory>
         requires room { self.old.reader.lines + vec_len self.old.tail + length end.now + 1 < 2 ^ 32 }
         requires one { IsOneLine end.now }
@@ -78,7 +78,7 @@ impl Pieces {
         }
     }
 
-    // Takes the line that ends with these bytes: out of the piece where it stands whole in it.
+    /// Takes the line that ends with these bytes: out of the piece where it stands whole in it.
     fn take_line(&mut self, end: &[u8]) -> Result<(), LineError>
         requires { self.old.reader.lines + 1 < 2 ^ 32 }
         ensures line { (before : List MediaLine) → StandsFor self.old.reader before → TakesLine result before self.new.reader (media_line (strip_carriage_return (self.old.tail.items ++ end.now))) }
@@ -97,7 +97,7 @@ impl Pieces {
         Ok(())
     }
 
-    // Takes bytes without a line feed.
+    /// Takes bytes without a line feed.
     fn keep(&mut self, rest: &[u8]) -> Result<(), Memory>
         requires { IsOneLine rest.now }
         ensures stands { (before : List ℕ) → StandsAt self.old before → OnOk result (StandsAt self.new (before ++ rest.now)) }
@@ -122,7 +122,7 @@ impl Pieces {
     }
 }
 
-// The playlist of a reader that took every line but the one behind the last line feed.
+/// The playlist of a reader that took every line but the one behind the last line feed.
 fn end(alloc: Global, mut reader: LineReader, tail: &[u8]) -> Result<MediaList, PlaylistError>
     requires { reader.lines + length tail.now < 2 ^ 32 }
     ensures { (bytes : List ℕ) → IsAt bytes tail.now reader → ReadsAs result (playlist_of bytes) }
@@ -142,7 +142,7 @@ fn end(alloc: Global, mut reader: LineReader, tail: &[u8]) -> Result<MediaList, 
     }
 }
 
-// The bytes in front of the first line feed and those behind it; `None` where there is none.
+/// The bytes in front of the first line feed and those behind it; `None` where there is none.
 fn cut_feed(bytes: &[u8]) -> Option<(&[u8], &[u8])>
     ensures parts { MatchOption result (IsOneLine bytes.now) (λ cut. (bytes.now ≡ cut.0.now ++ 10 ∷ cut.1.now) × IsOneLine cut.0.now) }
     ensures shorter { IfSome result (λ cut. length cut.0.now + length cut.1.now + 1 ≡ length bytes.now) }

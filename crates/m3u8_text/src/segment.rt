@@ -50,7 +50,7 @@ impl Segment {
         Ok(Segment { micros, uri, cut })
     }
 
-    // The segment of these parts, which are allowed.
+    /// The segment of these parts, which are allowed.
     pub(crate) fn over(micros: u64, uri: Text, cut: bool) -> Segment
         requires { IsSegment (record { micros = micros; uri = uri; cut = cut }) }
         ensures { result ≡ record { micros = micros; uri = uri; cut = cut } }
@@ -80,7 +80,7 @@ impl Segment {
     }
 }
 
-// Whether the text can be the URI of a segment.
+/// Whether the text can be the URI of a segment.
 fn is_segment_uri(uri: &str) -> bool
     ensures { result ≡ is_segment_uri uri.now }
 {

@@ -62,7 +62,7 @@ pub(crate) fn value_of(digits: &[u8]) -> u128
     value
 }
 
-// The number that one digit spells.
+/// The number that one digit spells.
 fn digit_of(digit: u8) -> u8
     requires { is_ascii_digit digit ≡ true }
     ensures value { result ≡ digit_value digit }

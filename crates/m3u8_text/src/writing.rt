@@ -30,7 +30,7 @@ pub fn write(alloc: Global, list: &MediaList) -> Result<Vec<u8>, Memory>
     Ok(out)
 }
 
-// Writes the five lines in front of the segments.
+/// Writes the five lines in front of the segments.
 #[tactic(auto, using(std::proofs::Common::append_assoc))]
 fn put_head(alloc: Global, out: &mut Vec<u8>, list: &MediaList) -> Result<(), Memory>
     ensures { OnOk result (out.new.items ≡ out.old.items ++ flat_map fed (head_lines list.now)) }
@@ -42,7 +42,7 @@ fn put_head(alloc: Global, out: &mut Vec<u8>, list: &MediaList) -> Result<(), Me
     put_line(out, b"#EXT-X-PLAYLIST-TYPE:VOD")
 }
 
-// Writes the lines of each segment.
+/// Writes the lines of each segment.
 fn put_segments(alloc: Global, out: &mut Vec<u8>, segments: &[Segment]) -> Result<(), Memory>
     ensures { OnOk result (out.new.items ≡ out.old.items ++ flat_map fed (flat_map segment_lines segments.now)) }
 {
@@ -52,7 +52,7 @@ fn put_segments(alloc: Global, out: &mut Vec<u8>, segments: &[Segment]) -> Resul
     Ok(())
 }
 
-// Writes the lines of one segment.
+/// Writes the lines of one segment.
 #[tactic(auto, using(std::proofs::Common::append_assoc))]
 fn put_segment(alloc: Global, out: &mut Vec<u8>, segment: &Segment) -> Result<(), Memory>
     ensures { OnOk result (out.new.items ≡ out.old.items ++ flat_map fed (segment_lines segment.now)) }
@@ -62,7 +62,7 @@ fn put_segment(alloc: Global, out: &mut Vec<u8>, segment: &Segment) -> Result<()
     put_line(out, segment.uri().as_str().as_bytes())
 }
 
-// Writes the line of a discontinuity, where there is one.
+/// Writes the line of a discontinuity, where there is one.
 fn put_cut(out: &mut Vec<u8>, cut: bool) -> Result<(), Memory>
     ensures { OnOk result (out.new.items ≡ out.old.items ++ flat_map fed (cut_lines cut)) }
 {
@@ -72,7 +72,7 @@ fn put_cut(out: &mut Vec<u8>, cut: bool) -> Result<(), Memory>
     Ok(())
 }
 
-// Writes the line of a duration in microseconds.
+/// Writes the line of a duration in microseconds.
 #[tactic(auto, using(std::proofs::Common::append_assoc))]
 fn put_duration(alloc: Global, out: &mut Vec<u8>, micros: u64) -> Result<(), Memory>
     ensures { OnOk result (out.new.items ≡ out.old.items ++ fed (duration_line micros)) }
@@ -85,7 +85,7 @@ fn put_duration(alloc: Global, out: &mut Vec<u8>, micros: u64) -> Result<(), Mem
     put_line(out, b",")
 }
 
-// The lowest six digits of the number.
+/// The lowest six digits of the number.
 fn six_digits(number: u64) -> [u8; 6]
     ensures { result ≡ low_digits 6 number }
 {
@@ -99,14 +99,14 @@ fn six_digits(number: u64) -> [u8; 6]
     ]
 }
 
-// The lowest digit of the number.
+/// The lowest digit of the number.
 fn last_digit(number: u64) -> u8
     ensures { result ≡ 48 + number % 10 }
 {
     b'0' + (number % 10) as u8
 }
 
-// Writes a line of a tag and a number.
+/// Writes a line of a tag and a number.
 #[tactic(auto, using(std::proofs::Common::append_assoc))]
 fn put_number_line(alloc: Global, out: &mut Vec<u8>, tag: &[u8], value: u64) -> Result<(), Memory>
     ensures { OnOk result (out.new.items ≡ out.old.items ++ fed (tag.now ++ decimal value)) }
@@ -116,7 +116,7 @@ fn put_number_line(alloc: Global, out: &mut Vec<u8>, tag: &[u8], value: u64) -> 
     put_line(out, number.as_str().as_bytes())
 }
 
-// Writes the bytes and a line feed.
+/// Writes the bytes and a line feed.
 fn put_line(out: &mut Vec<u8>, text: &[u8]) -> Result<(), Memory>
     ensures { OnOk result (out.new.items ≡ out.old.items ++ fed text.now) }
 {

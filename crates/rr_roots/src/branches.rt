@@ -51,7 +51,7 @@ pub fn vanishes_at_zero<F: Field>(q: &BiPoly<F>) -> bool
     }
 }
 
-// Whether the first coefficients of Q(x, 0) are zero.
+/// Whether the first coefficients of Q(x, 0) are zero.
 fn vanishes_below<F: Field>(q: &BiPoly<F>, count: usize) -> bool
     ensures { IsTrue result ↔ ((i : ℕ) → i < count → coefficient F.ring q.now i 0 ≡ F.ring.nil) }
 {

@@ -40,7 +40,7 @@ pub fn poly_roots<F: Field, P: Ledger>(
     Ok(Items::over(roots_of(alloc, entries)?))
 }
 
-// All y-roots as lists of k coefficients, in the order in which they are found.
+/// All y-roots as lists of k coefficients, in the order in which they are found.
 fn all_lists<F: Field, P: Ledger>(
     alloc: Global,
     q: &BiPoly<F>,

@@ -41,7 +41,7 @@ pub fn root_lists<F: Field, P: Ledger>(
     Ok(found)
 }
 
-// The list of no coefficients, where it stands for a y-root.
+/// The list of no coefficients, where it stands for a y-root.
 fn last_lists<F: Field>(alloc: Global, q: &BiPoly<F>) -> Result<Vec<Elements<F>>, Memory>
     requires { greatest x_power q.now < 65536 }
     ensures these { IfOk result (λ lists. AreYRootLists F.ring q.now 0 lists.items) }
@@ -55,7 +55,7 @@ fn last_lists<F: Field>(alloc: Global, q: &BiPoly<F>) -> Result<Vec<Elements<F>>
     Ok(lists)
 }
 
-// Adds each of the lists with the constant before it.
+/// Adds each of the lists with the constant before it.
 fn add_each<F: Field>(
     alloc: Global,
     found: &mut Vec<Elements<F>>,
@@ -70,7 +70,7 @@ fn add_each<F: Field>(
     Ok(())
 }
 
-// The list that begins with the constant.
+/// The list that begins with the constant.
 fn led_by<F: Field>(alloc: Global, constant: F, tail: &[F]) -> Result<Elements<F>, Memory>
     ensures { IfOk result (λ list. list ≡ constant ∷ tail.now) }
 {

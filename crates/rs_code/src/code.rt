@@ -159,7 +159,7 @@ impl<F: Field> Code<F> {
         Message::of(packed_number(coefs.as_slice()))
     }
 
-    // Whether the word has the message's symbol at this place.
+    /// Whether the word has the message's symbol at this place.
     fn agrees<P: Ledger>(
         &self,
         message: Message,
@@ -179,7 +179,7 @@ impl<F: Field> Code<F> {
     }
 }
 
-// Coefficient j of the message, as an element.
+/// Coefficient j of the message, as an element.
 fn coefficient<F: Field>(message: Message, j: u32) -> F
     requires { j < 13 }
     ensures { F.number result ≡ coefficient F.BITS message j }
@@ -188,7 +188,7 @@ fn coefficient<F: Field>(message: Message, j: u32) -> F
     F::of(number as u8).unwrap()
 }
 
-// The element that stands for this place.
+/// The element that stands for this place.
 fn point<F: Field>(place: u32) -> F
     requires { place < F.Q }
     ensures { F.number result ≡ place }
@@ -196,7 +196,7 @@ fn point<F: Field>(place: u32) -> F
     F::of(place as u8).unwrap()
 }
 
-// The number of the message with these coefficients.
+/// The number of the message with these coefficients.
 fn packed_number<F: Field>(coefs: &[F]) -> u128
     requires { length coefs.now ≤ 13 }
     ensures { result ≡ packed F.BITS (map F.number coefs.now) }
@@ -208,7 +208,7 @@ fn packed_number<F: Field>(coefs: &[F]) -> u128
     number
 }
 
-// Puts the place behind the others where it is one of them.
+/// Puts the place behind the others where it is one of them.
 fn push_if(places: &mut Vec<u16>, place: u16, is_one: bool) -> Result<(), AllocError>
     ensures { OnOk result (places.new.items ≡ places.old.items ++ (if is_one then place ∷ [] else [])) }
 {

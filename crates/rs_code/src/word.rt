@@ -38,7 +38,7 @@ impl Word {
         Ok(Word { slots: copy })
     }
 
-    // The word of these slots, which it takes over.
+    /// The word of these slots, which it takes over.
     pub(crate) fn over(slots: Vec<Option<u8>>) -> Word
         requires { IsWord slots.items }
         ensures { result ≡ slots.items }
@@ -69,7 +69,7 @@ impl Word {
     }
 }
 
-// Puts one more slot behind the others.
+/// Puts one more slot behind the others.
 pub(crate) fn append(slots: &mut Vec<Option<u8>>, slot: Option<u8>) -> Result<(), AllocError>
     ensures appended { OnOk result (slots.new.items ≡ slots.old.items ++ slot ∷ []) }
     ensures byte { IfSome slot (λ v. v < 256) }

@@ -37,7 +37,7 @@ impl Word {
     }
 }
 
-// How many symbols of `m` bits there are.
+/// How many symbols of `m` bits there are.
 fn symbol_count(m: u32) -> usize
     requires { m ≤ 8 }
     ensures value { result ≡ 2 ^ m }
@@ -46,7 +46,7 @@ fn symbol_count(m: u32) -> usize
     1 << m
 }
 
-// The text without one line feed at its end.
+/// The text without one line feed at its end.
 fn without_line_feed(bytes: &[u8]) -> &[u8]
     ensures { result.now ≡ without_line_feed bytes.now }
 {
@@ -56,7 +56,7 @@ fn without_line_feed(bytes: &[u8]) -> &[u8]
     }
 }
 
-// The slot that a token stands for, among the symbols below the limit.
+/// The slot that a token stands for, among the symbols below the limit.
 #[tactic(auto, unfolding(code_terms::specs::WordText::slot_of))]
 fn slot_of_token(token: &[u8], limit: usize) -> Option<Option<u8>>
     requires { limit ≤ 256 }
@@ -73,7 +73,7 @@ fn slot_of_token(token: &[u8], limit: usize) -> Option<Option<u8>>
     }
 }
 
-// The number that the bytes spell. Bytes that are no text spell none.
+/// The number that the bytes spell. Bytes that are no text spell none.
 #[tactic(auto, using(crate::proofs::NumberTexts::number_of_no_text))]
 fn number_of_bytes(bytes: &[u8]) -> Option<u128>
     ensures { result ≡ number_of bytes.now }

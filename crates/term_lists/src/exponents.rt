@@ -29,7 +29,7 @@ pub fn terms_below(alloc: Global, w: usize, e: usize) -> Result<Vec<Exponents>, 
     Ok(terms)
 }
 
-// Adds the terms of one weight.
+/// Adds the terms of one weight.
 fn add_weight(terms: &mut Vec<Exponents>, w: usize, weight: usize) -> Result<(), AllocError>
     requires some { 1 ≤ w }
     requires light { w ≤ 12 }

@@ -44,7 +44,7 @@ fn answered(rt: HostRuntime, words: Result<Vec<String>, Status>) -> Status
 }
 
 /// The words of the program's arguments, which are all but its own name. An argument that is not UTF-8 makes them no command.
-// That the arguments are what the caller typed no clause can say: std promises nothing of what `env::args` answers.
+/// That the arguments are what the caller typed no clause can say: std promises nothing of what `env::args` answers.
 fn words_of(alloc: Global, arguments: io::Result<env::Args>) -> Result<Vec<String>, Status>
     ensures words { IfOk arguments (λ arguments. IfOk result (λ words. words.items ≡ drop 1 (into_iter_items arguments))) }
     ensures memory { IfOk arguments (λ arguments. IfErr result (λ status. status ≡ Status.Memory)) }

@@ -7,7 +7,6 @@ ghost use Rattle.outcome_terms.specs.Stores.{Follows, Settles, seen, store};
 
 use crate::field::found;
 use crate::report::write_report;
-use crate::valid::valid_dimension;
 use crate::word::word_under;
 use command_io::register_under;
 use lic_register::Register;
@@ -45,7 +44,7 @@ fn allowed(register: &Register, c: u128) -> Result<u32, Refusal>
     ensures bound { Settles result (allowed register.now.dimension c) }
     ensures most { IfOk result (λ bound. bound ≤ 8) }
 {
-    let k = valid_dimension(register);
+    let k = register.dimension();
     if (1..=8).contains(&c) && c as u32 * (k - 1) <= 12 {
         Ok(c as u32)
     } else {
@@ -69,7 +68,7 @@ fn report<P: Ledger, Q: Ledger>(
     ensures { Settles (seen (λ text. text.items) result) (report register.now word.now bound) }
 {
     let readable = word.readable();
-    let not_enough = bound * bound * (valid_dimension(register) - 1);
+    let not_enough = bound * bound * (register.dimension() - 1);
     if readable <= not_enough {
         return Err(Refusal::Content(Fault::TooFew {
             readable,

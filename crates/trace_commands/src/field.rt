@@ -4,7 +4,6 @@ ghost use Rattle.std.specs.Prelude.{◌≡◌, ◌≤◌, ◌^◌, length, IfOk}
 ghost use Rattle.desk_terms.specs.Findings.{findings};
 
 use crate::scan::scan;
-use crate::valid::valid_bits;
 use desk_terms::Findings;
 use gf2m::Gf;
 use lic_register::Register;
@@ -27,7 +26,7 @@ pub fn found<P: Ledger, Q: Ledger>(
     requires bound { bound ≤ 8 }
     ensures { IfOk result (λ found. found ≡ findings register.now word.now bound) }
 {
-    match valid_bits(register) {
+    match register.bits() {
         4 => scan::<Gf<4>, P, Q>(alloc, register, word, bound, prods, looks),
         5 => scan::<Gf<5>, P, Q>(alloc, register, word, bound, prods, looks),
         6 => scan::<Gf<6>, P, Q>(alloc, register, word, bound, prods, looks),

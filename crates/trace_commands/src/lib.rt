@@ -5,7 +5,6 @@ mod accuse_command;
 mod field;
 mod report;
 mod scan;
-mod valid;
 mod word;
 
 pub use accuse_command::accuse;

@@ -6,7 +6,6 @@ ghost use Rattle.register_terms.specs.Enrolment.{names_of, message_of};
 ghost use Rattle.desk_terms.specs.Findings.{findings};
 ghost use Rattle.desk_terms.specs.Scan.{accusations_at};
 
-use crate::valid::valid_dimension;
 use desk_terms::{Accused, AccusedList, Findings};
 use gf2m::{Field, Ledger, Steps};
 use lic_register::Register;
@@ -29,7 +28,7 @@ pub fn scan<F: Field, P: Ledger, Q: Ledger>(
     requires bound { bound ≤ 8 }
     ensures { IfOk result (λ found. found ≡ findings register.now word.now bound) }
 {
-    let code = Code::<F>::new(word.len(), valid_dimension(register)).unwrap();
+    let code = Code::<F>::new(word.len(), register.dimension()).unwrap();
     let mut accused = Vec::new(alloc);
     'serials: for serial in 0..register.len() {
         consider(

@@ -8,7 +8,6 @@ ghost use Rattle.outcome_terms.specs.Reading.{blob_limit, understood};
 ghost use Rattle.outcome_terms.specs.AccuseCommand.{word_under};
 ghost use Rattle.outcome_terms.specs.Stores.{Follows, Settles, store};
 
-use crate::valid::valid_bits;
 use command_io::bytes_under;
 use lic_register::Register;
 use outcome_terms::{Fault, Refusal};
@@ -30,7 +29,7 @@ pub fn word_under<S: Shelf>(
     ensures most { IfOk result (λ word. length word ≤ 2 ^ register.now.bits) }
 {
     let bytes = bytes_under(alloc, shelf, name)?;
-    word_of_bytes(alloc, bytes, valid_bits(register))
+    word_of_bytes(alloc, bytes, register.bits())
 }
 
 fn word_of_bytes(alloc: Global, bytes: Vec<u8>, m: u32) -> Result<Word, Refusal>

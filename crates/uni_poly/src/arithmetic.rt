@@ -42,7 +42,7 @@ impl<F: Field> Poly<F> {
     }
 }
 
-// So many zeros.
+/// So many zeros.
 pub(crate) fn zeros<F: Field>(alloc: Global, len: usize) -> Result<Vec<F>, AllocError>
     ensures count { IfOk result (λ zeros. vec_len zeros ≡ len) }
     ensures each { IfOk result (λ zeros. (k : ℕ) → coefficients F.ring zeros.items k ≡ F.ring.nil) }
@@ -54,7 +54,7 @@ pub(crate) fn zeros<F: Field>(alloc: Global, len: usize) -> Result<Vec<F>, Alloc
     Ok(zeros)
 }
 
-// Turns zeros into the product of two lists of coefficients.
+/// Turns zeros into the product of two lists of coefficients.
 fn add_product<F: Field, P: Ledger>(target: &mut [F], left: &[F], right: &[F], prods: &mut Steps<P>)
     requires room { length target.old ≡ length left.now + length right.now }
     requires zeros { (k : ℕ) → coefficients F.ring target.old k ≡ F.ring.nil }

@@ -35,7 +35,7 @@ impl<F: Field> Poly<F> {
         Ok(Poly::over(copy))
     }
 
-    // The polynomial with these coefficients, which it takes over.
+    /// The polynomial with these coefficients, which it takes over.
     pub(crate) fn over(mut coefs: Vec<F>) -> Poly<F>
         ensures { IsListOf F.ring (coefficients F.ring coefs.items) result }
     {
@@ -78,7 +78,7 @@ pub fn trimmed<F: Field>(coefs: &[F]) -> &[F]
     &coefs[..significant(coefs)]
 }
 
-// How many coefficients are left when zeros at the end are dropped.
+/// How many coefficients are left when zeros at the end are dropped.
 fn significant<F: Field>(coefs: &[F]) -> usize
     ensures within { result ≤ length coefs.now }
     ensures zeros { (k : ℕ) → result ≤ k → coefficients F.ring coefs.now k ≡ F.ring.nil }

@@ -31,7 +31,7 @@ impl<F: Field> Poly<F> {
     }
 }
 
-// The element with this number.
+/// The element with this number.
 fn element<F: Field>(number: u32) -> F
     requires { number < F.Q }
     ensures { F.number result ≡ number }

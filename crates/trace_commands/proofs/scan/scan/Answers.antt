@@ -8,8 +8,8 @@ use Rattle.trace_commands.proofs.scan.scan.Goals as goal
 pub unwrap-code-requires : goal.unwrap-code-requires
 unwrap-code-requires g c =
     let size : g.F.Field.Q ≡ 2 ^ c.args.register.now.bits = g.met.F.Field.size ∙ ap (λ b. 2 ^ b) c.requires.field in
-    let least = c.valid_dimension.ensures.least in
-    let most = c.valid_dimension.ensures.most in
+    let least = c.dimension.ensures.low in
+    let most = c.dimension.ensures.high in
     let places = c.len.ensures.places in
     code_made c.new.result (λ h. elim (c.new.ensures.bad_k.0 h) [ inl low ↦ omega arith | inr high ↦ omega arith ])
     (λ h. elim (c.new.ensures.bad_n.0 h).2 [ inl low ↦ omega arith | inr high ↦ omega arith ])
