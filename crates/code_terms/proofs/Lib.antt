@@ -3,3 +3,4 @@ pub mod Packing
 pub mod PlaceLaws
 pub mod SlotLaws
 pub mod WordLength
+pub mod Faults

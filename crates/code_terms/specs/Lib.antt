@@ -1,3 +1,4 @@
 pub mod Symbols
 pub mod Words
 pub mod WordText
+pub mod WordFaults

@@ -1,10 +1,11 @@
 //! What is proved of the definitions alone.
 
-ghost use Rattle.std.specs.Prelude.{◌≡◌, ℕ, ◌^◌, ◌<◌, ◌≤◌, List, [], ◌∷◌, length, map, All, Option, Some, None, Ok, Err, codes};
+ghost use Rattle.std.specs.Prelude.{◌↔◌, ◌≡◌, ℕ, ◌^◌, ◌<◌, ◌≤◌, List, [], ◌∷◌, length, map, All, Option, Some, None, Ok, Err, codes};
 ghost use Rattle.std.specs.List.Sorted.{IsStrictlyIncreasing};
 ghost use Rattle.code_terms.specs.Symbols.{symbol_of};
 ghost use Rattle.code_terms.specs.Words.{readable, places_of, agreement_of, codeword_of, HasSymbolsBelow, three_colluders};
-ghost use Rattle.code_terms.specs.WordText.{word_of};
+ghost use Rattle.code_terms.specs.WordText.{tokens_of, word_of};
+ghost use Rattle.code_terms.specs.WordFaults.{SpellWord, IsFirstBroken, IsOverlong};
 
 use crate::word_fault::WordFault;
 
@@ -36,6 +37,17 @@ pub fn places_are_places()
 pub fn texts_spell_words()
     ensures places { (m : ℕ) (bytes : List ℕ) (word : List (Option ℕ)) → word_of m bytes ≡ Ok word → length word ≤ 2 ^ m }
     ensures symbols { (m : ℕ) (bytes : List ℕ) (word : List (Option ℕ)) → word_of m bytes ≡ Ok word → HasSymbolsBelow (2 ^ m) word }
+{}
+
+/// What a text is read as, told by its tokens: a word exactly where each token stands for a slot and there are no more
+/// tokens than symbols; else the first token that stands for none, or the token for which no place is left.
+pub fn words_are_their_tokens()
+    ensures word { (m : ℕ) (bytes : List ℕ) (word : List (Option ℕ)) →
+        (word_of m bytes ≡ Ok word) ↔ SpellWord (2 ^ m) (tokens_of bytes) word }
+    ensures token { (m : ℕ) (bytes : List ℕ) (place : ℕ) →
+        (word_of m bytes ≡ Err (WordFault.Token place)) ↔ IsFirstBroken (2 ^ m) (tokens_of bytes) place }
+    ensures long { (m : ℕ) (bytes : List ℕ) →
+        (word_of m bytes ≡ Err WordFault.Long) ↔ IsOverlong (2 ^ m) (tokens_of bytes) }
 {}
 
 /// Symbols of messages are numbers below 2^m, at each of the 2^m points.
