@@ -1,3 +1,4 @@
 pub mod Enrolment
 pub mod Rules
 pub mod RegisterText
+pub mod RegisterFaults
