@@ -89,9 +89,9 @@ pub data NumberBreaks {K : Type 0} (kinds : RowKinds K) (word : List ℕ) (allow
   no_number : RowBreaks kinds (number_after word) at e → NumberBreaks kinds word allowed broken at e
   refused : (text : List ℕ) (more : List (List ℕ)) (n : ℕ) → at.lines ≡ text ∷ more → number_after word text ≡ Some n → allowed n ≡ false → e ≡ fault (at.number + 1) broken → NumberBreaks kinds word allowed broken at e
 
-number_broken_by : {K : Type 0} (kinds : RowKinds K) (word : List ℕ) (allowed : ℕ → Bool) (broken : K) (at : Place) (e : LineFault K) → number_row kinds word allowed broken at ≡ Err e → NumberBreaks kinds word allowed broken at e
+pub number_breaks : {K : Type 0} (kinds : RowKinds K) (word : List ℕ) (allowed : ℕ → Bool) (broken : K) (at : Place) (e : LineFault K) → number_row kinds word allowed broken at ≡ Err e → NumberBreaks kinds word allowed broken at e
 unfolding number_row
-number_broken_by {K} kinds word allowed broken at e is = by (breaks is)
+number_breaks {K} kinds word allowed broken at e is = by (breaks is)
   where
     by_rule : (n : ℕ) (between : Place) → row kinds (number_after word) at ≡ Ok (n, between) → Breaks (require (allowed n) broken) (λ _. give n) between e → NumberBreaks kinds word allowed broken at e
     by_rule n between found (first halt) =

@@ -6,3 +6,5 @@ pub mod LicenseeLines
 pub mod Texts
 pub mod Messages
 pub mod Withdrawing
+pub mod Beginnings
+pub mod HeaderFaults

@@ -23,7 +23,7 @@ use Rattle.register_terms.proofs.LicenseeLines.{IsSaid, IsSoFar, row_read, row_a
 
 -- ---- small lists
 
-all_nil : {A : Type 0} (P : A → Type 0) → All P []
+pub all_nil : {A : Type 0} (P : A → Type 0) → All P []
 all_nil P = λ i d lt. absurd (omega arith)
 
 all_cons : {A : Type 0} (P : A → Type 0) (x : A) (xs : List A) → P x → All P xs → All P (x ∷ xs)
@@ -65,7 +65,7 @@ rest_read edition e found past at after so_far is =
       tail = subst (λ (p : Place). p.tail ≡ []) same_end over.tail;
     }
 
-text_by : (edition : Edition) (e : Enrolment) (bytes : List ℕ) → All (IsSaid edition) e.licensees → bytes ≡ flat_map line (register_lines edition e) → IsTextOf e bytes
+pub text_by : (edition : Edition) (e : Enrolment) (bytes : List ℕ) → All (IsSaid edition) e.licensees → bytes ≡ flat_map line (register_lines edition e) → IsTextOf e bytes
 unfolding register_text older_text
 text_by Newer e bytes able is = newer is
 text_by Older e bytes able is = older able is
@@ -131,6 +131,9 @@ licensees_one_line edition e [] plain = all_nil OneLine
 licensees_one_line edition e (x ∷ licensees) plain =
     all_cons OneLine (licensee_line edition x) (map (licensee_line edition) licensees) (licensee_one edition x.active x.name (plain_no_line_feed x.name (plain 0 [] (omega arith)))) (licensees_one_line edition e licensees (λ i d lt. plain (suc i) d (omega (arith, lt))))
 
+pub register_one_line : (edition : Edition) (e : Enrolment) → IsValid e → All OneLine (register_lines edition e)
+register_one_line edition e valid = All-append OneLine (header_lines edition e) (map (licensee_line edition) e.licensees) (header_one_line edition e valid) (licensees_one_line edition e e.licensees valid.plain)
+
 rest_again : (edition : Edition) (e : Enrolment) → IsSoFar edition (with_licensees e []) e.licensees → licensees_form edition (with_licensees e []) [] (place 5 (map (licensee_line edition) e.licensees) []) ≡ Ok (e, place (5 + length e.licensees) [] [])
 unfolding licensees_form lines_left
 rest_again edition e so_far =
@@ -148,7 +151,7 @@ edition_is_read : (edition : Edition) (e : Enrolment) → IsValid e → All (IsS
 unfolding register_of register_form
 edition_is_read edition e valid able =
     let lines : List (List ℕ) = map (licensee_line edition) e.licensees in
-    let one : All OneLine (register_lines edition e) = All-append OneLine (header_lines edition e) lines (header_one_line edition e valid) (licensees_one_line edition e e.licensees valid.plain) in
+    let one : All OneLine (register_lines edition e) = register_one_line edition e valid in
     let so_far : IsSoFar edition (with_licensees e []) e.licensees = record { valid = valid; able = able } in
     ap (λ (p : Place). found_in (register_form p)) (before_lines (register_lines edition e) one)
     ∙ ap found_in (join header_form _ (header_again edition e lines valid) (rest_again edition e so_far))
