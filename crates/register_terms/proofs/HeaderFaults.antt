@@ -175,7 +175,7 @@ low_dimension : (k : ℕ) → is_dimension k ≡ true → k < 2 ^ 128
 low_dimension k is = omega (arith, leb-true k 13 (and_parts (nat_le 2 k) (nat_le k 13) is).1)
 
 -- the number that a line was read to have
-on_line : (word : List ℕ) (n : ℕ) → n < 2 ^ 128 → number_on word (word ++ decimal n) ≡ n
+pub on_line : (word : List ℕ) (n : ℕ) → n < 2 ^ 128 → number_on word (word ++ decimal n) ≡ n
 on_line word n low = rw (number_after-line word n low) refl
 
 multiplier_refused : (edition : List ℕ) (m k : ℕ) → m < 2 ^ 128 → k < 2 ^ 128 → (text : List ℕ) (n : ℕ) → number_after (codes "a ") text ≡ Some n → is_multiplier m k n ≡ false

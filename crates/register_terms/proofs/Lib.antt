@@ -8,3 +8,4 @@ pub mod Messages
 pub mod Withdrawing
 pub mod Beginnings
 pub mod HeaderFaults
+pub mod LicenseeFaults

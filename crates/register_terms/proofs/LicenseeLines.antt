@@ -88,7 +88,7 @@ row_read edition e past x at after so_far is =
     subst (λ (y : Licensee). Grows (licensee_line edition) (IsSoFar edition e) past y at after) g.is here
 
 -- the next licensee of a valid register may be enrolled
-next_is_welcome : (e : Enrolment) (past : List Licensee) (x : Licensee) (more : List Licensee) → IsValid (with_licensees e (past ++ x ∷ more)) → IsWelcome (with_licensees e past) x.name
+pub next_is_welcome : (e : Enrolment) (past : List Licensee) (x : Licensee) (more : List Licensee) → IsValid (with_licensees e (past ++ x ∷ more)) → IsWelcome (with_licensees e past) x.name
 next_is_welcome e past x more valid =
     let names : names_of (past ++ x ∷ more) ≡ names_of past ++ x.name ∷ names_of more = map-append (λ (y : Licensee). y.name) past (x ∷ more) in
     let at : ℕ = length (names_of past) in
