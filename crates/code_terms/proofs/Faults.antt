@@ -1,5 +1,5 @@
 -- Where a text of a word has its first fault, token by token.
-use Rattle.std.proofs.Common.{arith, ◌≡◌, ◌↔◌, ℕ, zero, suc, ◌+◌, ◌^◌, ◌<◌, ◌≤◌, Bool, true, false, cond, ◌&&◌, List, [], ◌∷◌, length, map, take, get_or, Some, None, Option, Result, Ok, Err, refl, sym, ap, ◌∙◌, subst, inl, inr}
+use Rattle.std.proofs.Common.{arith, ◌≡◌, ◌↔◌, ℕ, suc, ◌+◌, ◌^◌, ◌<◌, ◌≤◌, Bool, true, false, cond, ◌&&◌, List, [], ◌∷◌, length, map, take, get_or, Some, None, Option, Result, Ok, Err, refl, sym, ap, ◌∙◌, subst, inl, inr}
 use Rattle.std.specs.Prelude.{nat_le}
 use Rattle.std.specs.List.{list_all}
 use Rattle.std.specs.Option.{is_some}
@@ -59,7 +59,7 @@ slot_spelled : {A : Type 0} (limit : ℕ) (tokens : List (List ℕ)) (slots : Li
 slot_spelled limit tokens slots spelled i inside none =
     let long : length tokens ≡ length slots = sym (length-map tokens (slot_of limit)) ∙ ap (λ (found : List (Option (Option ℕ))). length found) spelled ∙ length-map slots Some in
     let here : slot_of limit (get_or tokens i []) ≡ Some (get_or slots i None) =
-        sym (get_or-map (slot_of limit) tokens i [] None inside) ∙ ap (λ (found : List (Option (Option ℕ))). get_or found i None) spelled ∙ get_or-map Some slots i None None (omega (arith, inside, long)) in
+    sym (get_or-map (slot_of limit) tokens i [] None inside) ∙ ap (λ (found : List (Option (Option ℕ))). get_or found i None) spelled ∙ get_or-map Some slots i None None (omega (arith, inside, long)) in
     absurd cc
 
 same_slots : (xs ys : List (Option ℕ)) → (let found : List (Option (Option ℕ)) = map Some xs in found) ≡ map Some ys → xs ≡ ys

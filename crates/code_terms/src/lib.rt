@@ -6,6 +6,9 @@ mod laws;
 mod message;
 mod word_fault;
 
-pub use laws::{places_are_places, symbols_are_symbols, texts_spell_words, words_are_their_tokens, worked_examples};
+pub use laws::{
+    places_are_places, symbols_are_symbols, texts_spell_words, words_are_their_tokens,
+    worked_examples,
+};
 pub use message::Message;
 pub use word_fault::WordFault;

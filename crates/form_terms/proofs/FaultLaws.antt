@@ -6,9 +6,9 @@ use Rattle.std.proofs.Math.Seq.{drop-cons}
 use Rattle.form_terms.specs.declared.fault.LineFault.{LineFault}
 use Rattle.form_terms.specs.declared.fault.RowKinds.{RowKinds}
 use Rattle.form_terms.specs.TextLines.{ended_lines, rest_of, number_after}
-use Rattle.form_terms.specs.Forms.{Place, place, Form, fault, then_at, followed, ◌>>=◌, give, require, demand, lack_of, line_in, next_line, said, row, number_row, rows_after, the_end}
-use Rattle.form_terms.specs.FirstFaults.{AtLine, whole, cut, nothing, next_of, at_line, lines_before, IsFirstFault}
-use Rattle.form_terms.proofs.FormLaws.{Took, Grows, took_nothing, took_then, line_read, met, Met}
+use Rattle.form_terms.specs.Forms.{Place, place, Form, fault, then_at, followed, ◌>>=◌, give, require, demand, lack_of, next_line, said, row, number_row, rows_after, the_end}
+use Rattle.form_terms.specs.FirstFaults.{AtLine, whole, next_of, at_line, lines_before, IsFirstFault}
+use Rattle.form_terms.proofs.FormLaws.{Took, Grows, took_nothing, took_then, line_read}
 
 -- ---- one form behind the other
 
@@ -99,6 +99,7 @@ number_breaks {K} kinds word allowed broken at e is = by (breaks is)
         let un = unmet halt in
         refused line.text between.lines n line.took.lines_are line.says un.is (un.fault_is ∙ ap (λ (l : ℕ). fault l broken) line.took.number_is)
     by_rule n between found (next x after done never) = never_broken n after e never
+
     by : Breaks (row kinds (number_after word)) (λ n. require (allowed n) broken >>= λ _. give n) at e → NumberBreaks kinds word allowed broken at e
     by (first halt) = no_number (row_breaks kinds halt)
     by (next n between found behind) = by_rule n between found (breaks behind)
@@ -173,8 +174,8 @@ first_fault Begins table bytes e at =
       inside = omega (arith, at.number, ap (λ (lines : List (List ℕ)). length lines) at.are, length-append at.front at.back);
       begins = subst Begins (sym before) at.begins;
       stops = λ text is goes_on.
-        let next = whole_next at.back (rest_of bytes) text (sym here ∙ is) in
-        at.stops text next.0 next.1 (subst (λ (lines : List (List ℕ)). Begins (lines ++ text ∷ [])) before goes_on);
+          let next = whole_next at.back (rest_of bytes) text (sym here ∙ is) in
+          at.stops text next.0 next.1 (subst (λ (lines : List (List ℕ)). Begins (lines ++ text ∷ [])) before goes_on);
       first = rw (before, here) at.first;
     }
 
@@ -186,7 +187,7 @@ prefix (suc n) (suc m) [] le = ([], refl)
 prefix {A} (suc n) (suc m) (x ∷ xs) le = let others = prefix n m xs (omega (arith, le)) in (others.0, ap (λ (ys : List A). x ∷ ys) others.1)
 
 -- a text that goes on past a line does not stop there
-passes : (Begins : List (List ℕ) → Type 0) → ((front back : List (List ℕ)) → Begins (front ++ back) → Begins front)
+pub passes : (Begins : List (List ℕ) → Type 0) → ((front back : List (List ℕ)) → Begins (front ++ back) → Begins front)
     → (bytes : List ℕ) (n m : ℕ) → 1 ≤ n → n < m → m ≤ length (ended_lines bytes) + 1 → Begins (lines_before bytes m)
     → ((text : List ℕ) → at_line bytes n ≡ whole text → Begins (lines_before bytes n ++ text ∷ []) → ⊥) → ⊥
 passes Begins shorter bytes n m some lt inside begins stops =

@@ -1,20 +1,20 @@
 -- What begins a register's text: the lines that every text of a valid register has, and the numbers on them.
-use Rattle.std.proofs.Common.{◌≡◌, ℕ, zero, suc, ◌+◌, ◌*◌, ◌%◌, ◌^◌, ◌<◌, ◌≤◌, Bool, true, false, eqb, codes, List, [], ◌∷◌, ◌++◌, length, map, get_or, Option, Some, None, Ok, refl, sym, ap, ◌∙◌, subst, append_assoc, append-nil, arith}
+use Rattle.std.proofs.Common.{◌≡◌, ℕ, ◌*◌, ◌%◌, ◌^◌, ◌<◌, ◌≤◌, true, eqb, List, [], ◌++◌, Option, Some, refl, sym, ap, ◌∙◌, subst, append_assoc, append-nil, arith}
 use Rattle.std.specs.Prelude.{nat_le, nat_lt}
 use Rattle.std.specs.List.{All, flat_map}
 use Rattle.std.specs.Fmt.{decimal}
 use Rattle.std.proofs.Math.Pow.{pow_mono}
 use Rattle.std.proofs.Math.Nat.{mul-le-mul}
-use Rattle.std.proofs.lemmas.Bool.{and_parts, and_from, eq-eqb, lt-ltb, leb-true}
-use Rattle.form_terms.specs.TextLines.{line, ended_lines, number_after}
-use Rattle.form_terms.proofs.LineLaws.{OneLine, lines_again, number_after-line}
+use Rattle.std.proofs.lemmas.Bool.{and_parts, and_from, lt-ltb, leb-true}
+use Rattle.form_terms.specs.TextLines.{line, ended_lines, rest_of, number_after}
+use Rattle.form_terms.proofs.LineLaws.{lines_again, no_rest, number_after-line}
 use Rattle.register_terms.specs.declared.edition.Edition.{Edition}
 use Rattle.register_terms.specs.declared.edition.Edition.TheVariants.{Newer, Older}
-use Rattle.register_terms.specs.Enrolment.{Licensee, Enrolment, IsValid, message_count}
-use Rattle.register_terms.specs.Rules.{are_bits, is_dimension, is_multiplier, is_shift, empty_register, with_licensees}
-use Rattle.register_terms.specs.RegisterText.{edition_line, header_lines, licensee_line, register_lines, register_text, older_text, IsTextOf, newer, older}
+use Rattle.register_terms.specs.Enrolment.{Enrolment, IsValid, message_count}
+use Rattle.register_terms.specs.Rules.{are_bits, is_dimension, empty_register}
+use Rattle.register_terms.specs.RegisterText.{header_lines, register_lines, register_text, older_text, IsTextOf, newer, older}
 use Rattle.register_terms.specs.RegisterFaults.{Begins}
-use Rattle.register_terms.proofs.HeaderLines.{IsRule, empty_valid, is_rule}
+use Rattle.register_terms.proofs.HeaderLines.{IsRule, empty_valid}
 use Rattle.register_terms.proofs.LicenseeLines.{IsSaid}
 use Rattle.register_terms.proofs.Texts.{all_nil, text_by, register_one_line}
 
@@ -24,6 +24,7 @@ pub record HasLines (e : Enrolment) (bytes : List ℕ) : Type 0 where
   pub edition : Edition
   pub able : All (IsSaid edition) e.licensees
   pub lines : ended_lines bytes ≡ register_lines edition e
+  pub nothing_behind : rest_of bytes ≡ []
 
 pub lines_of_text : (e : Enrolment) (bytes : List ℕ) → IsValid e → IsTextOf e bytes → HasLines e bytes
 unfolding register_text older_text
@@ -31,11 +32,13 @@ lines_of_text e bytes valid (newer is) = record {
   edition = Newer;
   able = λ i d lt. tt;
   lines = ap ended_lines is ∙ lines_again (register_lines Newer e) (register_one_line Newer e valid);
+  nothing_behind = ap rest_of is ∙ no_rest (register_lines Newer e) (register_one_line Newer e valid);
 }
 lines_of_text e bytes valid (older able is) = record {
   edition = Older;
   able = able;
   lines = ap ended_lines is ∙ lines_again (register_lines Older e) (register_one_line Older e valid);
+  nothing_behind = ap rest_of is ∙ no_rest (register_lines Older e) (register_one_line Older e valid);
 }
 
 -- ---- beginnings

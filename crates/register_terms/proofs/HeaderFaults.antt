@@ -1,14 +1,13 @@
 -- Where the first five lines stop, line by line.
-use Rattle.std.proofs.Common.{◌≡◌, ℕ, zero, suc, ◌+◌, ◌<◌, ◌^◌, Bool, true, false, codes, List, [], ◌∷◌, ◌++◌, length, get_or, Option, Some, None, Ok, Err, refl, sym, ap, ◌∙◌, subst, arith}
+use Rattle.std.proofs.Common.{◌≡◌, ℕ, ◌<◌, ◌^◌, Bool, true, false, codes, List, [], ◌∷◌, ◌++◌, get_or, Option, Some, None, Err, refl, sym, ap, ◌∙◌, subst, arith}
 use Rattle.std.specs.Prelude.{nat_le}
 use Rattle.std.specs.Fmt.{decimal}
 use Rattle.std.proofs.lemmas.Bool.{and_parts, leb-true}
 use Rattle.form_terms.specs.TextLines.{number_after}
-use Rattle.form_terms.specs.Forms.{Form, Place, place, fault, row, number_row, ◌>>=◌, give}
-use Rattle.form_terms.specs.FirstFaults.{AtLine, whole, cut, nothing, next_of}
-use Rattle.form_terms.specs.declared.fault.RowKinds.{RowKinds}
+use Rattle.form_terms.specs.Forms.{Form, Place, place, row, number_row, ◌>>=◌, give}
+use Rattle.form_terms.specs.FirstFaults.{AtLine, whole, cut, nothing}
 use Rattle.form_terms.proofs.LineLaws.{number_after-line}
-use Rattle.form_terms.proofs.FormLaws.{Took, took_nothing, took_then, split, line_read, number_read}
+use Rattle.form_terms.proofs.FormLaws.{Took, took_nothing, took_then, line_read, number_read}
 use Rattle.form_terms.proofs.FaultLaws.{Breaks, first, next, breaks, never_broken, RowBreaks, missing, unended, wrong, row_breaks, NumberBreaks, no_number, refused, number_breaks, Stops}
 use Rattle.register_terms.specs.declared.fault.RegisterKind.{RegisterKind}
 use Rattle.register_terms.specs.declared.fault.RegisterKind.TheVariants.{Ending, Header, BadM, BadK, BadMultiplier, BadShift}
@@ -19,7 +18,7 @@ use Rattle.register_terms.specs.Rules.{are_bits, is_dimension, is_multiplier, is
 use Rattle.register_terms.specs.RegisterText.{RegisterFault, edition_line, edition_in, header, header_lines, header_form}
 use Rattle.register_terms.specs.RegisterFaults.{Begins, wrong_with, number_on}
 use Rattle.register_terms.proofs.HeaderLines.{IsRule, is_rule, edition_is, edition_again}
-use Rattle.register_terms.proofs.Beginnings.{begins_shorter, begins_header, least_rule, header_of, same_number, IsSmall, small}
+use Rattle.register_terms.proofs.Beginnings.{begins_shorter, begins_header, least_rule, header_of, same_number, small}
 
 abbrev pub StopsHere : List (List ℕ) → List ℕ → RegisterFault → Type 0
 StopsHere lines tail e = Stops Begins wrong_with lines tail e
@@ -68,11 +67,11 @@ row_stops reads allowed front at lines tail e took begins says table (wrong text
   number = omega (arith, took.number_is, ap (λ (f : RegisterFault). f.line) is);
   begins = begins;
   stops = λ other others there goes_on.
-    let same : text ≡ other = cc in
-    let said = says other goes_on in
-    let found = said.is in
-    let none : reads other ≡ None = ap reads (sym same) ∙ unsaid in
-    absurd (cc (found, none));
+      let same : text ≡ other = cc in
+      let said = says other goes_on in
+      let found = said.is in
+      let none : reads other ≡ None = ap reads (sym same) ∙ unsaid in
+      absurd (cc (found, none));
   first = ap (λ (stands : AtLine). wrong_with front stands) (rw here refl) ∙ table.at_other text unsaid ∙ sym (ap (λ (f : RegisterFault). Some f.kind) is);
 }
 
@@ -89,13 +88,13 @@ number_stops word allowed broken front at lines tail e took begins says table at
   number = omega (arith, took.number_is, ap (λ (f : RegisterFault). f.line) is);
   begins = begins;
   stops = λ other others there goes_on.
-    let same : text ≡ other = cc in
-    let said = says other goes_on in
-    let again = said.is in
-    let is_allowed = said.allows in
-    let found_there : number_after word other ≡ Some n = ap (number_after word) (sym same) ∙ found in
-    let number : said.x ≡ n = cc in
-    absurd (cc (is_allowed, not_allowed, number));
+      let same : text ≡ other = cc in
+      let said = says other goes_on in
+      let again = said.is in
+      let is_allowed = said.allows in
+      let found_there : number_after word other ≡ Some n = ap (number_after word) (sym same) ∙ found in
+      let number : said.x ≡ n = cc in
+      absurd (cc (is_allowed, not_allowed, number));
   first = ap (λ (stands : AtLine). wrong_with front stands) (rw here refl) ∙ at_rule text n found not_allowed ∙ sym (ap (λ (f : RegisterFault). Some f.kind) is);
 }
 
@@ -216,9 +215,9 @@ shift_stage edition m k a at lines tail e read took (first halt) =
     let a_line : List ℕ = codes "a " ++ decimal a in
     let rule : IsRule m k a 0 = record { bits = read.bits; dimension = read.dimension; multiplier = read.multiplier; shift = (least_rule m k read.bits read.dimension).shift } in
     number_stops (codes "b ") (is_shift m k) BadShift (edition_line edition ∷ m_line ∷ k_line ∷ a_line ∷ []) at lines tail e took
-        (front_of edition m k a 0 (edition_line edition ∷ m_line ∷ k_line ∷ a_line ∷ []) ((codes "b " ++ decimal 0) ∷ []) rule refl)
-        (shift_says (edition_line edition) a_line m k m_low k_low) (shift_table (edition_line edition) m_line k_line a_line)
-        (shift_refused (edition_line edition) a_line m k m_low k_low) (number_breaks header (codes "b ") (is_shift m k) BadShift at e halt)
+    (front_of edition m k a 0 (edition_line edition ∷ m_line ∷ k_line ∷ a_line ∷ []) ((codes "b " ++ decimal 0) ∷ []) rule refl)
+    (shift_says (edition_line edition) a_line m k m_low k_low) (shift_table (edition_line edition) m_line k_line a_line)
+    (shift_refused (edition_line edition) a_line m k m_low k_low) (number_breaks header (codes "b ") (is_shift m k) BadShift at e halt)
 shift_stage edition m k a at lines tail e read took (next b after done behind) = never_broken (edition, empty_register m k a b) after e behind
 
 multiplier_stage : (edition : Edition) (m k : ℕ) (at : Place) (lines : List (List ℕ)) (tail : List ℕ) (e : RegisterFault) → are_bits m ≡ true → is_dimension k ≡ true
@@ -230,9 +229,9 @@ multiplier_stage edition m k at lines tail e bits dimension took (first halt) =
     let m_line : List ℕ = codes "m " ++ decimal m in
     let k_line : List ℕ = codes "k " ++ decimal k in
     number_stops (codes "a ") (is_multiplier m k) BadMultiplier (edition_line edition ∷ m_line ∷ k_line ∷ []) at lines tail e took
-        (front_of edition m k 1 0 (edition_line edition ∷ m_line ∷ k_line ∷ []) ((codes "a " ++ decimal 1) ∷ (codes "b " ++ decimal 0) ∷ []) (least_rule m k bits dimension) refl)
-        (multiplier_says (edition_line edition) m k m_low k_low) (multiplier_table (edition_line edition) m_line k_line)
-        (multiplier_refused (edition_line edition) m k m_low k_low) (number_breaks header (codes "a ") (is_multiplier m k) BadMultiplier at e halt)
+    (front_of edition m k 1 0 (edition_line edition ∷ m_line ∷ k_line ∷ []) ((codes "a " ++ decimal 1) ∷ (codes "b " ++ decimal 0) ∷ []) (least_rule m k bits dimension) refl)
+    (multiplier_says (edition_line edition) m k m_low k_low) (multiplier_table (edition_line edition) m_line k_line)
+    (multiplier_refused (edition_line edition) m k m_low k_low) (number_breaks header (codes "a ") (is_multiplier m k) BadMultiplier at e halt)
 multiplier_stage edition m k at lines tail e bits dimension took (next a after done behind) =
     let line = number_read header BadMultiplier done in
     shift_stage edition m k a after lines tail e (record { bits = bits; dimension = dimension; multiplier = line.allows }) (took_then took line.took) (breaks behind)
@@ -244,9 +243,9 @@ dimension_stage : (edition : Edition) (m : ℕ) (at : Place) (lines : List (List
 dimension_stage edition m at lines tail e bits took (first halt) =
     let m_line : List ℕ = codes "m " ++ decimal m in
     number_stops (codes "k ") is_dimension BadK (edition_line edition ∷ m_line ∷ []) at lines tail e took
-        (front_of edition m 2 1 0 (edition_line edition ∷ m_line ∷ []) ((codes "k " ++ decimal 2) ∷ (codes "a " ++ decimal 1) ∷ (codes "b " ++ decimal 0) ∷ []) (least_rule m 2 bits refl) refl)
-        (dimension_says (edition_line edition) m_line) (dimension_table (edition_line edition) m_line)
-        (λ text n found is. rw (found, is) refl) (number_breaks header (codes "k ") is_dimension BadK at e halt)
+    (front_of edition m 2 1 0 (edition_line edition ∷ m_line ∷ []) ((codes "k " ++ decimal 2) ∷ (codes "a " ++ decimal 1) ∷ (codes "b " ++ decimal 0) ∷ []) (least_rule m 2 bits refl) refl)
+    (dimension_says (edition_line edition) m_line) (dimension_table (edition_line edition) m_line)
+    (λ text n found is. rw (found, is) refl) (number_breaks header (codes "k ") is_dimension BadK at e halt)
 dimension_stage edition m at lines tail e bits took (next k after done behind) =
     let line = number_read header BadK done in
     multiplier_stage edition m k after lines tail e bits line.allows (took_then took line.took) (breaks behind)
@@ -257,9 +256,9 @@ bits_stage : (edition : Edition) (at : Place) (lines : List (List ℕ)) (tail : 
     → StopsHere lines tail e
 bits_stage edition at lines tail e took (first halt) =
     number_stops (codes "m ") are_bits BadM (edition_line edition ∷ []) at lines tail e took
-        (front_of edition 4 2 1 0 (edition_line edition ∷ []) ((codes "m " ++ decimal 4) ∷ (codes "k " ++ decimal 2) ∷ (codes "a " ++ decimal 1) ∷ (codes "b " ++ decimal 0) ∷ []) (least_rule 4 2 refl refl) refl)
-        (bits_says (edition_line edition)) (bits_table (edition_line edition))
-        (λ text n found is. rw (found, is) refl) (number_breaks header (codes "m ") are_bits BadM at e halt)
+    (front_of edition 4 2 1 0 (edition_line edition ∷ []) ((codes "m " ++ decimal 4) ∷ (codes "k " ++ decimal 2) ∷ (codes "a " ++ decimal 1) ∷ (codes "b " ++ decimal 0) ∷ []) (least_rule 4 2 refl refl) refl)
+    (bits_says (edition_line edition)) (bits_table (edition_line edition))
+    (λ text n found is. rw (found, is) refl) (number_breaks header (codes "m ") are_bits BadM at e halt)
 bits_stage edition at lines tail e took (next m after done behind) =
     let line = number_read header BadM done in
     dimension_stage edition m after lines tail e line.allows (took_then took line.took) (breaks behind)
@@ -271,7 +270,7 @@ header_stops lines tail e is = by (breaks is)
     by : Breaks {B = Edition × Enrolment} (row header edition_in) from_bits (place 0 lines tail) e → StopsHere lines tail e
     by (first halt) =
         row_stops edition_in (λ edition. true) [] (place 0 lines tail) lines tail e (took_nothing (place 0 lines tail))
-            (front_of Newer 4 2 1 0 [] (header_lines Newer (empty_register 4 2 1 0)) (least_rule 4 2 refl refl) refl) edition_says edition_table (row_breaks header halt)
+        (front_of Newer 4 2 1 0 [] (header_lines Newer (empty_register 4 2 1 0)) (least_rule 4 2 refl refl) refl) edition_says edition_table (row_breaks header halt)
     by (next edition after done behind) =
         let line = line_read header done in
         let took : Took (place 0 lines tail) (edition_line edition ∷ []) after = subst (λ (t : List ℕ). Took (place 0 lines tail) (t ∷ []) after) (edition_is line.text edition line.says) line.took in

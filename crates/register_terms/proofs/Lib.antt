@@ -9,3 +9,4 @@ pub mod Withdrawing
 pub mod Beginnings
 pub mod HeaderFaults
 pub mod LicenseeFaults
+pub mod FirstFaults

@@ -1,32 +1,31 @@
 -- Where the lines of licensees stop.
-use Rattle.std.proofs.Common.{◌≡◌, ℕ, zero, suc, ◌+◌, ◌*◌, ◌<◌, ◌≤◌, ◌^◌, min, Bool, true, false, cond, not, ltb, codes, List, [], ◌∷◌, ◌++◌, length, map, drop, get_or, Option, Some, None, Ok, Err, refl, sym, ap, ◌∙◌, subst, append_assoc, append-nil, length-append, arith, inl, inr}
+use Rattle.std.proofs.Common.{◌≡◌, ℕ, suc, ◌+◌, ◌<◌, Bool, true, false, cond, not, ltb, codes, List, [], ◌∷◌, ◌++◌, length, map, drop, get_or, Option, Some, None, Ok, Err, refl, sym, ap, ◌∙◌, subst, append_assoc, length-append, arith, inl, inr}
 use Rattle.std.specs.Prelude.{nat_le}
 use Rattle.std.specs.Fmt.{decimal}
 use Rattle.std.specs.List.{All, list_any, position, position_or_len}
 use Rattle.std.specs.Option.{is_some, option_map_or}
 use Rattle.std.specs.Str.{bytes_eq}
-use Rattle.std.proofs.lemmas.Bool.{cases_lt, lt-ltb, le-ltb, le-leb, ltb-true, lt-leb}
+use Rattle.std.proofs.lemmas.Bool.{cases_lt, lt-ltb, le-ltb, le-leb, lt-leb}
 use Rattle.std.proofs.Math.Seq.{get_or-append_seam}
 use Rattle.std.proofs.lemmas.List.{length-map, nil_from_length}
 use Rattle.text_terms.specs.Names.{is_plain}
-use Rattle.form_terms.specs.TextLines.{number_after}
 use Rattle.form_terms.specs.Forms.{Form, Place, place, fault, row, demand, give, lines_left, rows_after, the_end, ◌>>=◌}
 use Rattle.form_terms.specs.FirstFaults.{AtLine, whole, cut, next_of, first_that_applies}
-use Rattle.form_terms.proofs.FormLaws.{Took, Grows, Rows, took_then, line_read, same_found, rows_read}
-use Rattle.form_terms.proofs.FaultLaws.{Breaks, first, next, breaks, never_broken, RowBreaks, missing, unended, wrong, row_breaks, hindered, rows_broken, RowsBreak, not_ended, Stops}
+use Rattle.form_terms.proofs.FormLaws.{Took, Grows, took_then, line_read, same_found, rows_read}
+use Rattle.form_terms.proofs.FaultLaws.{Breaks, first, next, breaks, never_broken, RowBreaks, missing, unended, wrong, row_breaks, hindered, rows_broken, not_ended}
 use Rattle.register_terms.specs.declared.fault.RegisterKind.{RegisterKind}
 use Rattle.register_terms.specs.declared.fault.RegisterKind.TheVariants.{Ending, BadStatus, BadName, NameTaken, Full}
 use Rattle.register_terms.specs.declared.edition.Edition.{Edition}
 use Rattle.register_terms.specs.declared.edition.Edition.TheVariants.{Newer}
 use Rattle.register_terms.specs.Enrolment.{Licensee, Enrolment, IsValid, names_of, serial_of, capacity}
 use Rattle.register_terms.specs.Rules.{with_licensees, refusal_of}
-use Rattle.register_terms.specs.RegisterText.{RegisterFault, edition_line, edition_in, header_lines, licensee_line, licensee_in, later, licensee_row, licensees_form, register_lines}
-use Rattle.register_terms.specs.RegisterFaults.{Begins, wrong_with, licensee_table, names_someone, name_in, edition_on, number_on}
-use Rattle.register_terms.proofs.Growing.{IsWelcome, is_welcome, not_refused}
+use Rattle.register_terms.specs.RegisterText.{RegisterFault, edition_line, edition_in, header_lines, licensee_line, licensee_in, later, licensee_row, licensees_form}
+use Rattle.register_terms.specs.RegisterFaults.{Begins, wrong_with, licensee_table, names_someone, edition_on, number_on}
+use Rattle.register_terms.proofs.Growing.{IsWelcome, not_refused}
 use Rattle.register_terms.proofs.HeaderLines.{IsHeader, edition_again}
 use Rattle.register_terms.proofs.Texts.{all_nil}
 use Rattle.register_terms.proofs.LicenseeLines.{IsSaid, IsSoFar, licensee_again, next_is_welcome, row_read}
-use Rattle.register_terms.proofs.Beginnings.{begins_whole, header_of, same_number, small, IsSmall}
+use Rattle.register_terms.proofs.Beginnings.{begins_whole, header_of, same_number, small}
 use Rattle.register_terms.proofs.HeaderFaults.{StopsHere, on_line}
 
 -- ---- whether a name is taken
@@ -37,9 +36,10 @@ found_or_not {X} p (x ∷ xs) = by (p x) refl (found_or_not p xs)
   where
     next_one : (n m : ℕ) → ltb (1 + n) (suc m) ≡ ltb n m
     next_one n m = elim (cases_lt n m) [
-        | inl lt ↦ lt-ltb (1 + n) (suc m) (omega (arith, lt)) ∙ sym (lt-ltb n m lt)
-        | inr le ↦ le-ltb (1 + n) (suc m) (omega (arith, le)) ∙ sym (le-ltb n m le)
-      ]
+      | inl lt ↦ lt-ltb (1 + n) (suc m) (omega (arith, lt)) ∙ sym (lt-ltb n m lt)
+      | inr le ↦ le-ltb (1 + n) (suc m) (omega (arith, le)) ∙ sym (le-ltb n m le)
+    ]
+
     by : (test : Bool) → p x ≡ test → ltb (position_or_len p xs) (length xs) ≡ list_any p xs → ltb (position_or_len p (x ∷ xs)) (length (x ∷ xs)) ≡ list_any p (x ∷ xs)
     by true is others = rw is (lt-ltb 0 (suc (length xs)) (omega arith))
     by false is others = rw is (next_one (position_or_len p xs) (length xs) ∙ others)
@@ -151,7 +151,7 @@ goes_on edition e past text so_far begins =
     let dimension : h.register.dimension ≡ e.dimension = same_number (codes "k ") h.register.dimension e.dimension there.dimension here.dimension (ap (λ (lines : List (List ℕ)). get_or lines 2 []) h.are) in
     let behind : map (licensee_line h.edition) h.register.licensees ≡ (map (licensee_line edition) past ++ text ∷ []) ++ h.more = ap (λ (lines : List (List ℕ)). drop 5 lines) h.are in
     let lines : map (licensee_line edition) h.register.licensees ≡ map (licensee_line edition) past ++ text ∷ h.more =
-        ap (λ (n : Edition). map (licensee_line n) h.register.licensees) (sym same) ∙ behind ∙ append_assoc (map (licensee_line edition) past) (text ∷ []) h.more in
+    ap (λ (n : Edition). map (licensee_line n) h.register.licensees) (sym same) ∙ behind ∙ append_assoc (map (licensee_line edition) past) (text ∷ []) h.more in
     let able : All (IsSaid edition) h.register.licensees = subst (λ (n : Edition). All (IsSaid n) h.register.licensees) same h.able in
     let p = prefix_of edition past h.register.licensees text h.more so_far.able able lines in
     let whole_list : IsValid (with_licensees h.register (past ++ p.x ∷ p.more)) = subst (λ (xs : List Licensee). IsValid (with_licensees h.register xs)) p.are h.valid in
@@ -186,8 +186,8 @@ line_stops edition e past lines tail at f stands text more here number kind neve
   number = omega (arith, stands.took.number_is, number);
   begins = begins_there edition e past stands.so_far;
   stops = λ other others there more_of_it.
-    let same : text ≡ other = cc in
-    never (subst (GoesOn edition e past) (sym same) (goes_on edition e past other stands.so_far more_of_it));
+      let same : text ≡ other = cc in
+      never (subst (GoesOn edition e past) (sym same) (goes_on edition e past other stands.so_far more_of_it));
   first = ap (λ (s : AtLine). wrong_with (front_of edition e past) s) (rw here refl) ∙ kind;
 }
 
@@ -197,8 +197,8 @@ row_halts edition e past lines tail at f stands some (missing none no_tail is) =
 row_halts edition e past lines tail at f stands some (unended b bytes none tail_is is) = absurd (omega (arith, some, ap (λ (ls : List (List ℕ)). length ls) none))
 row_halts edition e past lines tail at f stands some (wrong text more here unsaid is) =
     line_stops edition e past lines tail at f stands text more here (ap (λ (g : RegisterFault). g.line) is)
-        (table_there edition e past stands.so_far.valid (whole text) ∙ rw unsaid refl ∙ sym (ap (λ (g : RegisterFault). Some g.kind) is))
-        (λ goes. let says = goes.says in absurd (cc (says, unsaid)))
+    (table_there edition e past stands.so_far.valid (whole text) ∙ rw unsaid refl ∙ sym (ap (λ (g : RegisterFault). Some g.kind) is))
+    (λ goes. let says = goes.says in absurd (cc (says, unsaid)))
 
 row_stops_at : (edition : Edition) (e : Enrolment) (past : List Licensee) (lines : List (List ℕ)) (tail : List ℕ) (at : Place) (f : RegisterFault) → Stands edition e past lines tail at → 0 < length at.lines
     → Breaks {B = Licensee} (row later (licensee_in edition)) (λ x. demand (refusal_of (with_licensees e past) x.name) >>= λ _. give x) at f → StopsHere lines tail f
@@ -211,13 +211,13 @@ row_stops_at edition e past lines tail at f stands some (next x between done beh
         let why = hindered (refusal_of (with_licensees e past) x.name) halt in
         let refused = why.is in
         line_stops edition e past lines tail at f stands line.text between.lines line.took.lines_are (why.line_is ∙ line.took.number_is)
-            (refused_there edition e past stands.so_far line.text x f.kind line.says why.is)
-            (λ goes.
-                let says = goes.says in
-                let line_says = line.says in
-                let same : goes.x ≡ x = cc in
-                let free : refusal_of (with_licensees e past) x.name ≡ None = ap (λ (y : Licensee). refusal_of (with_licensees e past) y.name) (sym same) ∙ goes.welcome in
-                absurd (cc (refused, free)))
+        (refused_there edition e past stands.so_far line.text x f.kind line.says why.is)
+        (λ goes.
+        let says = goes.says in
+        let line_says = line.says in
+        let same : goes.x ≡ x = cc in
+        let free : refusal_of (with_licensees e past) x.name ≡ None = ap (λ (y : Licensee). refusal_of (with_licensees e past) y.name) (sym same) ∙ goes.welcome in
+        absurd (cc (refused, free)))
     by (next u after met never) = never_broken x after f never
 
 -- bytes behind the last line
@@ -267,8 +267,10 @@ licensees_stop edition e lines tail at f head is = by_count (breaks is)
   where
     start : IsSoFar edition e []
     start = record { valid = subst IsValid (ap (with_licensees e) head.nobody) head.valid; able = all_nil (IsSaid edition) }
+
     grown : (past : List Licensee) (x : Licensee) (from after : Place) → IsSoFar edition e past → licensee_row edition e past from ≡ Ok (x, after) → Grows (licensee_line edition) (IsSoFar edition e) past x from after
     grown past x from after keeps one = row_read edition e past x from after keeps one
+
     by_end : (count : ℕ) (found : List Licensee) (between : Place) → count ≡ length at.lines → rows_after [] count (licensee_row edition e) at ≡ Ok (found, between)
         → Breaks {B = Enrolment} (the_end Ending) (λ _. give (with_licensees e found)) between f → StopsHere lines tail f
     by_end count found between many done (first halt) =
@@ -279,6 +281,7 @@ licensees_stop edition e lines tail at f head is = by_count (breaks is)
         let stands : Stands edition e rows.more lines tail between = record { so_far = subst (IsSoFar edition e) rows.are rows.keeps; took = front_by edition e rows.more lines tail at between head.took rows.took } in
         tail_stops edition e rows.more lines tail between f stands none (omega (arith, over.left, ap (λ (ls : List (List ℕ)). length ls) none)) over.fault_is
     by_end count found between many done (next u after ended never) = never_broken (with_licensees e found) after f never
+
     by_rows : (count : ℕ) (from : Place) → count ≡ length at.lines → at ≡ from
         → Breaks {B = Enrolment} (rows_after [] count (licensee_row edition e)) (λ found. the_end Ending >>= λ _. give (with_licensees e found)) from f → StopsHere lines tail f
     by_rows count from many same (first halt) =
@@ -289,6 +292,7 @@ licensees_stop edition e lines tail at f head is = by_count (breaks is)
         row_breaks_there edition e rows.more lines tail rows.between f stands (omega (arith, all, many, rows.few, length-map rows.more (licensee_line edition))) rows.broken
     by_rows count from many same (next found between done behind) =
         by_end count found between many (subst (λ (p : Place). rows_after [] count (licensee_row edition e) p ≡ Ok (found, between)) (sym same) done) (breaks behind)
+
     by_count : Breaks {B = Enrolment} lines_left (λ count. rows_after [] count (licensee_row edition e) >>= λ found. the_end Ending >>= λ _. give (with_licensees e found)) at f → StopsHere lines tail f
     by_count (first halt) = never_uncounted at f halt
     by_count (next count from counts behind) =

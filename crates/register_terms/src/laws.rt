@@ -2,9 +2,11 @@
 
 ghost use Rattle.std.specs.Prelude.{◌↔◌, ◌≡◌, ◌<◌, ◌*◌, ◌^◌, length, slice_get, Some, List, [], ◌∷◌, ◌++◌, ℕ, true, false, codes, Ok, Err};
 ghost use Rattle.form_terms.specs.Forms.{fault};
+ghost use Rattle.form_terms.specs.FirstFaults.{IsFirstFault};
 ghost use Rattle.register_terms.specs.Enrolment.{Enrolment, IsValid, capacity, message_of, names_of, serial_of};
 ghost use Rattle.register_terms.specs.Rules.{empty_register, with_licensees, withdrawn_at};
-ghost use Rattle.register_terms.specs.RegisterText.{IsTextOf, in_state, register_text, register_of};
+ghost use Rattle.register_terms.specs.RegisterText.{IsTextOf, RegisterFault, in_state, register_text, register_of};
+ghost use Rattle.register_terms.specs.RegisterFaults.{Begins, wrong_with};
 ghost use Rattle.register_terms.specs.declared.fault.RegisterKind.TheVariants.{Ending, Header, BadM, BadStatus, BadName, NameTaken};
 
 /// Small registers and small faults, worked out by the definitions.
@@ -33,6 +35,13 @@ pub fn worked_examples()
 /// So what is written is read again as itself, and no text is that of two registers.
 pub fn texts_are_registers()
     ensures { (bytes : List ℕ) (e : Enrolment) → (register_of bytes ≡ Ok e) ↔ (IsValid e × IsTextOf e bytes) }
+{}
+
+/// A text has a fault exactly where its lines before that line begin a text of some valid register, the line does not go on
+/// with one, and the kind is the first in the table that applies there. So a text has one first fault, and none where it is
+/// a register's.
+pub fn faults_are_first()
+    ensures { (bytes : List ℕ) (f : RegisterFault) → (register_of bytes ≡ Err f) ↔ IsFirstFault Begins wrong_with bytes f }
 {}
 
 /// In a valid register the messages of different serials differ, and each message is below the number of messages.

@@ -10,4 +10,6 @@ mod laws;
 
 pub use edition::Edition;
 pub use fault::{RegisterFault, RegisterKind};
-pub use laws::{messages_differ, names_tell_serials, texts_are_registers, worked_examples};
+pub use laws::{
+    faults_are_first, messages_differ, names_tell_serials, texts_are_registers, worked_examples,
+};
