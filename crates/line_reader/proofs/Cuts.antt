@@ -1,11 +1,12 @@
 -- The first line feed, the part before it, and what a text without one is.
-use Rattle.std.proofs.Common.{◌≡◌, ℕ, ◌+◌, ◌<◌, ◌≤◌, Bool, true, false, cond, ltb, eqb, List, [], ◌∷◌, length, take, drop, Some, None, Ok, Err, refl, sym, ap, ◌∙◌, arith, inl, inr}
+use Rattle.std.proofs.Common.{◌≡◌, ℕ, ◌+◌, ◌<◌, ◌≤◌, Bool, true, false, cond, ltb, eqb, List, [], ◌∷◌, length, take, drop, get_or, Option, Some, None, Ok, Err, refl, sym, ap, ◌∙◌, arith, inl, inr}
 use Rattle.std.specs.List.{position, position_or_len}
-use Rattle.std.proofs.lemmas.Bool.{cases_Bool, ne_eqb, eqb-true, ltb-true, ltb-false, cond-true}
+use Rattle.std.proofs.lemmas.Bool.{cases_Bool, false_from_ne_true, lt-ltb, le-ltb, ne_eqb, eqb-true, ltb-true, ltb-false, cond-true}
 use Rattle.std.proofs.lemmas.List.{nil_from_length}
 use Rattle.std.proofs.lemmas.List.Elements.{All-from_get_or}
 use Rattle.std.proofs.lemmas.List.Splits.{slice_split_first, slice_split_none}
-use Rattle.std.proofs.lemmas.List.Sums.{fails_before_first, prefix_len-le-length}
+use Rattle.std.proofs.lemmas.List.Sums.{fails_before_first, prefix_len-le-length, position_or_len_is}
+use Rattle.memchr.specs.Find.{IsFirstByte}
 use Rattle.form_terms.specs.TextLines.{parts_of, all_but_last, last_part, ended_lines, rest_of}
 use Rattle.form_terms.specs.Forms.{place, fault, next_line}
 use Rattle.form_terms.proofs.LineLaws.{parts_have, lines_and_rest}
@@ -28,6 +29,15 @@ some_place : {X : Type 0} (p : X → Bool) (xs : List X) (i : ℕ) → position 
 some_place p xs i found =
     let at = place_is (ltb (position_or_len p xs) (length xs)) (position_or_len p xs) i found in
     (omega (arith, ltb-true (position_or_len p xs) (length xs) at.0, at.1), at.1)
+
+-- a byte that is found first, in the words of the search, stands at the first place
+pub first_place : (test : ℕ → Bool) (bytes : List ℕ) (found : Option ℕ) → IsFirstByte test bytes found → found ≡ position test bytes
+first_place test bytes None nowhere =
+    let all : position_or_len test bytes ≡ length bytes = position_or_len_is test bytes (length bytes) 0 (omega arith) (λ k lt. false_from_ne_true (test (get_or bytes k 0)) (nowhere k (omega arith) lt)) (λ lt. absurd (omega (arith, lt))) in
+    rw (all, le-ltb (length bytes) (length bytes) (omega arith)) refl
+first_place test bytes (Some k) found =
+    let at : position_or_len test bytes ≡ k = position_or_len_is test bytes k 0 (omega (arith, found.0.high)) (λ i lt. false_from_ne_true (test (get_or bytes i 0)) (found.0.before i (omega arith) lt)) (λ _. found.1) in
+    rw (at, lt-ltb k (length bytes) found.0.high) refl
 
 -- a text without line feed is the one part of itself
 pub uncut : (bytes : List ℕ) → position (λ b. eqb b 10) bytes ≡ None → parts_of bytes ≡ bytes ∷ []
