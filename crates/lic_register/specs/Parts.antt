@@ -4,9 +4,9 @@ use Rattle.form_terms.specs.Forms.{Place, found_in}
 use Rattle.register_terms.specs.declared.edition.Edition.{Edition}
 use Rattle.register_terms.specs.declared.fault.RegisterKind.{RegisterKind}
 use Rattle.register_terms.specs.Enrolment.{Licensee, Enrolment}
-use Rattle.register_terms.specs.Rules.{empty_register, with_licensee, refusal_of}
+use Rattle.register_terms.specs.Rules.{broken_rule, empty_register, with_licensee, refusal_of}
 use Rattle.register_terms.specs.RegisterText.{RegisterFault, licensees_form}
-use Rattle.lic_register.specs.Answers.{refused_by, IsRefused}
+use Rattle.lic_register.specs.Answers.{IsRefused}
 use Rattle.lic_register.specs.declared.rule.Rule.{Rule}
 use Rattle.lic_register.specs.declared.errors.RegisterReadError.{RegisterReadError}
 use Rattle.lic_register.specs.declared.reading.LicenseeLine.{LicenseeLine}
@@ -19,7 +19,7 @@ register_by rule = empty_register rule.bits rule.dimension rule.multiplier rule.
 
 -- no rule is broken by these numbers
 abbrev pub IsAllowed : Rule → Type 0
-IsAllowed rule = refused_by rule.bits rule.dimension rule.multiplier rule.shift ≡ None
+IsAllowed rule = broken_rule rule.bits rule.dimension rule.multiplier rule.shift ≡ None
 
 -- the licensee that a line says
 abbrev pub read_licensee : LicenseeLine → Licensee

@@ -1,8 +1,8 @@
 //! Licensees who come and who leave.
 
 ghost use Rattle.std.specs.Prelude.{◌≡◌, ◌+◌, ◌<◌, None, true, length, OnOk, OnErr, IfOk, IfErr};
-ghost use Rattle.register_terms.specs.Rules.{refusal_of, with_licensee, with_name, with_withdrawn, is_active};
-ghost use Rattle.lic_register.specs.Answers.{enrolment_of, EnrolsAs, withdrawal_of};
+ghost use Rattle.register_terms.specs.Rules.{enrolment_of, refusal_of, with_licensee, with_name, with_withdrawn, is_active};
+ghost use Rattle.lic_register.specs.Answers.{EnrolsAs, withdrawal_of};
 ghost use Rattle.lic_register.specs.declared.errors.EnrolError.TheVariants as enrol_errors;
 
 use crate::errors::{EnrolError, WithdrawError};

@@ -8,19 +8,6 @@ use lists::Memory;
 use register_terms::RegisterFault;
 use std::alloc::{AllocError, AllocFailed};
 
-/// Why there is no register of these numbers: the first of these that applies.
-#[derive(Clone, Copy, Debug, PartialEq, Eq)]
-pub enum RegisterError {
-    /// The bits of a symbol are not 4 to 8.
-    BadM,
-    /// The dimension of the code is not 2 to 13.
-    BadK,
-    /// The multiplier is even, or is no message.
-    BadMultiplier,
-    /// The shift is no message.
-    BadShift,
-}
-
 /// Why a name was not enrolled: the first of these that applies, or want of memory.
 #[derive(Clone, Copy, Debug, PartialEq, Eq)]
 pub enum EnrolError {

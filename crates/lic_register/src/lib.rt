@@ -13,10 +13,10 @@ mod register;
 mod rule;
 mod writing;
 
-pub use errors::{EnrolError, RegisterError, RegisterReadError, WithdrawError};
+pub use errors::{EnrolError, RegisterReadError, WithdrawError};
 pub use licensee::Licensee;
 pub use register::Register;
-pub use register_terms::{RegisterFault, RegisterKind};
+pub use register_terms::{NameRefusal, RegisterError, RegisterFault, RegisterKind};
 
 #[cfg(test)]
 mod tests;

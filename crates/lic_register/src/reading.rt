@@ -14,9 +14,9 @@ ghost use Rattle.lic_register.specs.Parts.{register_by, IsAllowed, GoesOn, Admit
 
 use crate::errors::{EnrolError, RegisterReadError};
 use crate::register::Register;
-use crate::rule::{MOST_LICENSEES, Rule, are_bits, is_dimension, is_multiplier, message_count};
+use crate::rule::{Rule, are_bits, is_dimension, is_multiplier, message_count};
 use line_reader::{Lines, RowKinds};
-use register_terms::{Edition, RegisterFault, RegisterKind};
+use register_terms::{Edition, MOST_LICENSEES, RegisterFault, RegisterKind};
 use std::alloc::Global;
 use std::str;
 

@@ -3,13 +3,12 @@
 ghost use Rattle.std.specs.Prelude.{◌≡◌, ◌≤◌, ◌<◌, IfOk, length};
 ghost use Rattle.std.specs.Result.{result_err};
 ghost use Rattle.register_terms.specs.Enrolment.{IsValid};
-ghost use Rattle.register_terms.specs.Rules.{empty_register};
-ghost use Rattle.lic_register.specs.Answers.{refused_by};
+ghost use Rattle.register_terms.specs.Rules.{empty_register, broken_rule};
 ghost use Rattle.lic_register.specs.Parts.{register_by, IsAllowed};
 
-use crate::errors::RegisterError;
 use crate::rule::Rule;
 use indexmap::IndexMap;
+use register_terms::{MOST_LICENSEES, RegisterError};
 use std::alloc::Global;
 use std::marker::Model;
 
@@ -40,7 +39,7 @@ impl Register {
     /// A register without licensees, over codewords of `k` symbols of `m` bits, whose serial j has the message aj + b,
     /// taken by the number of messages. It takes no memory.
     pub fn new(alloc: Global, m: u32, k: u32, a: u128, b: u128) -> Result<Register, RegisterError>
-        ensures refused { result_err result ≡ refused_by m k a b }
+        ensures refused { result_err result ≡ broken_rule m k a b }
         ensures made { IfOk result (λ r. r ≡ empty_register m k a b) }
     {
         let rule = Rule {
@@ -88,7 +87,7 @@ impl Register {
     /// The number of licensees, active and withdrawn.
     pub fn len(&self) -> u32
         ensures number { result ≡ length self.now.licensees }
-        ensures few { result ≤ 200000 }
+        ensures few { result ≤ MOST_LICENSEES }
         ensures valid { IsValid self.now }
     {
         self.licensees.len() as u32

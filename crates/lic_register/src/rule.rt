@@ -1,13 +1,9 @@
 //! The numbers of a register, and the rules on them.
 
 ghost use Rattle.std.specs.Prelude.{◌≡◌, ◌*◌, ◌%◌, ◌^◌, ◌≤◌, ◌==◌, ◌&&◌, nat_lt, min};
-ghost use Rattle.register_terms.specs.Rules.{are_bits, is_dimension};
-ghost use Rattle.lic_register.specs.Answers.{refused_by};
+ghost use Rattle.register_terms.specs.Rules.{are_bits, is_dimension, broken_rule};
 
-use crate::errors::RegisterError;
-
-/// No register holds more licensees.
-pub(crate) const MOST_LICENSEES: u32 = 200_000;
+use register_terms::{MOST_LICENSEES, RegisterError};
 
 /// The numbers of a register: its code, and the rule of its messages.
 #[derive(Clone, Copy, Debug, PartialEq, Eq)]
@@ -21,7 +17,7 @@ pub(crate) struct Rule {
 impl Rule {
     /// The first rule that these numbers break.
     pub(crate) fn broken(&self) -> Option<RegisterError>
-        ensures { result ≡ refused_by self.now.bits self.now.dimension self.now.multiplier self.now.shift }
+        ensures { result ≡ broken_rule self.now.bits self.now.dimension self.now.multiplier self.now.shift }
     {
         if !are_bits(u128::from(self.bits)) {
             return Some(RegisterError::BadM);
@@ -52,7 +48,7 @@ impl Rule {
     pub(crate) fn capacity(&self) -> u32
         requires bits { self.now.bits ≤ 8 }
         requires dimension { self.now.dimension ≤ 13 }
-        ensures { result ≡ min (2 ^ (self.now.bits * self.now.dimension)) 200000 }
+        ensures { result ≡ min (2 ^ (self.now.bits * self.now.dimension)) MOST_LICENSEES }
     {
         self.message_count().min(u128::from(MOST_LICENSEES)) as u32
     }

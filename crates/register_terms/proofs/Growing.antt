@@ -1,15 +1,16 @@
 -- A valid register stays one when a licensee whose name is not refused is added last.
-use Rattle.std.proofs.Common.{◌≡◌, ◌≢◌, ℕ, ◌<◌, Bool, true, false, cond, ltb, List, [], ◌∷◌, ◌++◌, length, Option, Some, None, refl, sym, subst, arith, length-append}
-use Rattle.std.specs.Option.{is_some}
+use Rattle.std.proofs.Common.{◌≡◌, ◌≢◌, ℕ, ◌<◌, Bool, true, false, cond, ltb, List, [], ◌∷◌, ◌++◌, length, Option, Some, None, Ok, Err, refl, sym, subst, arith, length-append}
+use Rattle.std.specs.Option.{option_map}
+use Rattle.std.specs.Result.{result_err}
 use Rattle.std.specs.List.{All, AllPairs}
 use Rattle.std.proofs.lemmas.Bool.{ltb-true, lt-ltb}
 use Rattle.std.proofs.lemmas.List.{map_push}
 use Rattle.std.proofs.lemmas.List.Elements.{All-push}
 use Rattle.std.proofs.lemmas.List.Quantifiers.{all_pairs_push}
 use Rattle.text_terms.specs.Names.{is_plain}
-use Rattle.register_terms.specs.declared.fault.RegisterKind.TheVariants.{BadName, NameTaken, Full}
+use Rattle.register_terms.specs.declared.refusal.NameRefusal.TheVariants.{BadName, NameTaken, Full}
 use Rattle.register_terms.specs.Enrolment.{Licensee, Enrolment, IsValid, names_of, capacity, serial_of}
-use Rattle.register_terms.specs.Rules.{refusal_of, with_licensee}
+use Rattle.register_terms.specs.Rules.{serial_for, kind_of, refusal_of, with_licensee}
 use Rattle.register_terms.proofs.Serials.{absent_differs}
 
 -- why a name may be enrolled
@@ -18,15 +19,16 @@ pub record IsWelcome (e : Enrolment) (name : List ℕ) : Type 0 where
   pub new : serial_of (names_of e.licensees) name ≡ None
   pub room : length e.licensees < capacity e
 
-welcome_from : (plain : Bool) (taken : Option ℕ) (room : Bool) → cond plain (cond (is_some taken) (Some NameTaken) (cond room None (Some Full))) (Some BadName) ≡ None → (plain ≡ true) × (taken ≡ None) × (room ≡ true)
-welcome_from true None true is = (refl, refl, refl)
-welcome_from true None false is = cc
-welcome_from true (Some serial) room is = cc
-welcome_from false taken room is = cc
+welcome_from : (plain : Bool) (taken : Option ℕ) (room : Bool) (n : ℕ)
+    → option_map kind_of (result_err (cond plain (serial_for n room taken) (Err BadName))) ≡ None → (plain ≡ true) × (taken ≡ None) × (room ≡ true)
+welcome_from true None true n is = (refl, refl, refl)
+welcome_from true None false n is = absurd cc
+welcome_from true (Some serial) room n is = absurd cc
+welcome_from false taken room n is = absurd cc
 
 pub is_welcome : (e : Enrolment) (name : List ℕ) → refusal_of e name ≡ None → IsWelcome e name
 is_welcome e name none =
-    let parts = welcome_from (is_plain name) (serial_of (names_of e.licensees) name) (ltb (length e.licensees) (capacity e)) none in
+    let parts = welcome_from (is_plain name) (serial_of (names_of e.licensees) name) (ltb (length e.licensees) (capacity e)) (length e.licensees) none in
     record { plain = parts.0; new = parts.1; room = ltb-true (length e.licensees) (capacity e) parts.2 }
 
 pub not_refused : (e : Enrolment) (name : List ℕ) → IsWelcome e name → refusal_of e name ≡ None

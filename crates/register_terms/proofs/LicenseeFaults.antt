@@ -3,7 +3,8 @@ use Rattle.std.proofs.Common.{◌≡◌, ℕ, suc, ◌+◌, ◌<◌, Bool, true,
 use Rattle.std.specs.Prelude.{nat_le}
 use Rattle.std.specs.Fmt.{decimal}
 use Rattle.std.specs.List.{All, list_any, position, position_or_len}
-use Rattle.std.specs.Option.{is_some, option_map_or}
+use Rattle.std.specs.Option.{is_some, option_map, option_map_or}
+use Rattle.std.specs.Result.{result_err}
 use Rattle.std.specs.Str.{bytes_eq}
 use Rattle.std.proofs.lemmas.Bool.{cases_lt, lt-ltb, le-ltb, le-leb, lt-leb}
 use Rattle.std.proofs.Math.Seq.{get_or-append_seam}
@@ -15,10 +16,11 @@ use Rattle.form_terms.proofs.FormLaws.{Took, Grows, took_then, line_read, same_f
 use Rattle.form_terms.proofs.FaultLaws.{Breaks, first, next, breaks, never_broken, RowBreaks, missing, unended, wrong, row_breaks, hindered, rows_broken, not_ended}
 use Rattle.register_terms.specs.declared.fault.RegisterKind.{RegisterKind}
 use Rattle.register_terms.specs.declared.fault.RegisterKind.TheVariants.{Ending, BadStatus, BadName, NameTaken, Full}
+use Rattle.register_terms.specs.declared.refusal.NameRefusal.TheVariants as refusals
 use Rattle.register_terms.specs.declared.edition.Edition.{Edition}
 use Rattle.register_terms.specs.declared.edition.Edition.TheVariants.{Newer}
 use Rattle.register_terms.specs.Enrolment.{Licensee, Enrolment, IsValid, names_of, serial_of, capacity}
-use Rattle.register_terms.specs.Rules.{with_licensees, refusal_of}
+use Rattle.register_terms.specs.Rules.{serial_for, kind_of, with_licensees, refusal_of}
 use Rattle.register_terms.specs.RegisterText.{RegisterFault, edition_line, edition_in, header_lines, licensee_line, licensee_in, later, licensee_row, licensees_form}
 use Rattle.register_terms.specs.RegisterFaults.{Begins, wrong_with, licensee_table, names_someone, edition_on, number_on}
 use Rattle.register_terms.proofs.Growing.{IsWelcome, not_refused}
@@ -78,12 +80,12 @@ table_there edition e past valid stands =
     let is : edition_on (edition_line edition) ≡ edition = ap (λ (found : Option Edition). option_map_or (λ x. x) found Newer) (edition_again edition) in
     rw (m, k, is) refl
 
-refused_by : (plain taken room : Bool) (kind : RegisterKind) → cond plain (cond taken (Some NameTaken) (cond room None (Some Full))) (Some BadName) ≡ Some kind
-    → first_that_applies ((false, Ending) ∷ (false, BadStatus) ∷ (not plain, BadName) ∷ (taken, NameTaken) ∷ (not room, Full) ∷ []) ≡ Some kind
-refused_by true true room kind is = is
-refused_by true false true kind is = absurd cc
-refused_by true false false kind is = is
-refused_by false taken room kind is = is
+refused_by : (plain : Bool) (taken : Option ℕ) (room : Bool) (n : ℕ) (k : RegisterKind) → option_map kind_of (result_err (cond plain (serial_for n room taken) (Err refusals.BadName))) ≡ Some k
+    → first_that_applies ((false, Ending) ∷ (false, BadStatus) ∷ (not plain, BadName) ∷ (is_some taken, NameTaken) ∷ (not room, Full) ∷ []) ≡ Some k
+refused_by true (Some serial) room n k is = is
+refused_by true None true n k is = absurd cc
+refused_by true None false n k is = is
+refused_by false taken room n k is = is
 
 no_room : (n most : ℕ) → nat_le most n ≡ not (ltb n most)
 no_room n most =
@@ -99,7 +101,7 @@ refused_there edition e past so_far text x kind said refused =
     let lines : List (List ℕ) = map (licensee_line edition) past in
     let taken : list_any (names_someone edition (bytes_eq x.name)) lines ≡ is_some (serial_of names x.name) = taken_alike edition x.name past so_far.able ∙ sym (is_found (bytes_eq x.name) names) in
     let full : nat_le (capacity e) (length lines) ≡ not (ltb (length past) (capacity e)) = ap (λ (n : ℕ). nat_le (capacity e) n) (length-map past (licensee_line edition)) ∙ no_room (length past) (capacity e) in
-    table_there edition e past so_far.valid (whole text) ∙ rw (said, taken, full) (refused_by (is_plain x.name) (is_some (serial_of names x.name)) (ltb (length past) (capacity e)) kind refused)
+    table_there edition e past so_far.valid (whole text) ∙ rw (said, taken, full) (refused_by (is_plain x.name) (serial_of names x.name) (ltb (length past) (capacity e)) (length past) kind refused)
 
 -- ---- lines that go on
 

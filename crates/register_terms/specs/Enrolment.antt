@@ -4,6 +4,7 @@ use Rattle.std.specs.Prelude.{◌≡◌, ◌≢◌, ℕ, ◌+◌, ◌*◌, ◌%�
 use Rattle.std.specs.List.{All, AllPairs, position}
 use Rattle.std.specs.Str.{bytes_eq}
 use Rattle.text_terms.specs.Names.{is_plain}
+use Rattle.register_terms.specs.declared.refusal.TheConstants.{MOST_LICENSEES}
 
 -- someone who was enrolled: a name, and whether the licence is held still. A licensee that is not active is withdrawn.
 pub record Licensee : Type 0 where
@@ -24,9 +25,9 @@ names_of licensees = map (λ x. x.name) licensees
 abbrev pub message_count : Enrolment → ℕ
 message_count e = 2 ^ (e.bits * e.dimension)
 
--- how many licensees a register can hold: one for each message, and never more than 200,000
+-- how many licensees a register can hold: one for each message, and never more than the limit, which is 200,000
 abbrev pub capacity : Enrolment → ℕ
-capacity e = min (message_count e) 200000
+capacity e = min (message_count e) MOST_LICENSEES
 
 -- the message of a serial
 abbrev pub message_of : Enrolment → ℕ → ℕ

@@ -9,6 +9,7 @@ use Rattle.form_terms.specs.TextLines.{ended_lines, number_after}
 use Rattle.form_terms.specs.FirstFaults.{AtLine, whole, cut, nothing, first_that_applies}
 use Rattle.register_terms.specs.declared.edition.Edition.{Edition}
 use Rattle.register_terms.specs.declared.edition.Edition.TheVariants.{Newer}
+use Rattle.register_terms.specs.declared.refusal.TheConstants.{MOST_LICENSEES}
 use Rattle.register_terms.specs.declared.fault.RegisterKind.{RegisterKind}
 use Rattle.register_terms.specs.declared.fault.RegisterKind.TheVariants.{Ending, Header, BadM, BadK, BadMultiplier, BadShift, BadStatus, BadName, NameTaken, Full}
 use Rattle.register_terms.specs.Enrolment.{Enrolment, IsValid}
@@ -84,7 +85,7 @@ table_of (edition ∷ m ∷ k ∷ []) at =
 table_of (edition ∷ m ∷ k ∷ a ∷ []) at =
     number_table (codes "b ") (is_shift (number_on (codes "m ") m) (number_on (codes "k ") k)) BadShift at
 table_of (edition ∷ m ∷ k ∷ a ∷ b ∷ earlier) at =
-    licensee_table (edition_on edition) (min (2 ^ (number_on (codes "m ") m * number_on (codes "k ") k)) 200000) earlier at
+    licensee_table (edition_on edition) (min (2 ^ (number_on (codes "m ") m * number_on (codes "k ") k)) MOST_LICENSEES) earlier at
 
 -- the first thing that is wrong with it
 abbrev pub wrong_with : List (List ℕ) → AtLine → Option RegisterKind

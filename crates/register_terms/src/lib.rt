@@ -7,9 +7,11 @@
 mod edition;
 mod fault;
 mod laws;
+mod refusal;
 
 pub use edition::Edition;
 pub use fault::{RegisterFault, RegisterKind};
 pub use laws::{
     faults_are_first, messages_differ, names_tell_serials, texts_are_registers, worked_examples,
 };
+pub use refusal::{MOST_LICENSEES, NameRefusal, RegisterError};
