@@ -8,8 +8,8 @@ ghost use Rattle.cli_words.specs.Details.{detail_text};
 use crate::errors::error_line;
 use code_terms::WordFault;
 use lists::Memory;
-use outcome_terms::{Fault, ParameterRule, Refusal, Status};
-use register_terms::RegisterKind;
+use outcome_terms::{Fault, Refusal, Status};
+use register_terms::{NameRefusal, RegisterError, RegisterKind};
 use std::alloc::{AllocError, Global};
 
 /// What a line says after the status.
@@ -85,9 +85,15 @@ fn line_of_fault<'a>(fault: &'a Fault) -> Line<'a>
             readable,
             not_enough,
         } => telling(Status::TooFew, Detail::Numbers(*readable, *not_enough)),
-        Fault::NameTaken(serial) => telling(Status::NameTaken, Detail::Number(*serial as u128)),
-        Fault::BadName => telling(Status::BadName, Detail::Word("name")),
-        Fault::Full(licensees) => telling(Status::Full, Detail::Number(*licensees as u128)),
+        Fault::NotEnrolled(NameRefusal::BadName) => {
+            telling(Status::BadName, Detail::Word("name"))
+        }
+        Fault::NotEnrolled(NameRefusal::NameTaken(serial)) => {
+            telling(Status::NameTaken, Detail::Number(*serial as u128))
+        }
+        Fault::NotEnrolled(NameRefusal::Full(licensees)) => {
+            telling(Status::Full, Detail::Number(*licensees as u128))
+        }
         Fault::Unknown(name) => telling(Status::Unknown, Detail::Word(name.as_str())),
         Fault::Withdrawn(name) => telling(Status::Withdrawn, Detail::Word(name.as_str())),
         Fault::SameName(name) => telling(Status::SameName, Detail::Word(name.as_str())),
@@ -136,13 +142,13 @@ fn kind_name(kind: RegisterKind) -> &'static str
     }
 }
 
-fn rule_name(rule: ParameterRule) -> &'static str
+fn rule_name(rule: RegisterError) -> &'static str
     ensures { result.now ≡ rule_text rule }
 {
     match rule {
-        ParameterRule::Bits => "bad-m",
-        ParameterRule::Dimension => "bad-k",
-        ParameterRule::Multiplier => "bad-multiplier",
-        ParameterRule::Shift => "bad-shift",
+        RegisterError::BadM => "bad-m",
+        RegisterError::BadK => "bad-k",
+        RegisterError::BadMultiplier => "bad-multiplier",
+        RegisterError::BadShift => "bad-shift",
     }
 }

@@ -4,7 +4,7 @@ ghost use Rattle.std.specs.Prelude.{◌≡◌, ◌≤◌, length, IfOk, IsTrue};
 ghost use Rattle.text_terms.specs.Names.{is_name};
 ghost use Rattle.register_terms.specs.RegisterText.{register_of};
 ghost use Rattle.outcome_terms.specs.declared.fault.Fault.TheVariants.{BadRegister};
-ghost use Rattle.outcome_terms.specs.Reading.{blob, blob_limit, understood};
+ghost use Rattle.outcome_terms.specs.Reading.{blob, understood};
 ghost use Rattle.outcome_terms.specs.Registers.{register_under};
 ghost use Rattle.outcome_terms.specs.Stores.{Follows, Reads, Settles, seen, store};
 
@@ -12,10 +12,8 @@ use lic_register::{Register, RegisterReadError};
 use lists::Text;
 use outcome_terms::{Fault, Refusal};
 use shelf_io::{FetchError, Shelf, fetch};
+use shelf_terms::BLOB_LIMIT;
 use std::alloc::Global;
-
-/// No command reads a blob of more bytes.
-const BLOB_LIMIT: u64 = 67_108_864;
 
 /// The bytes of a blob that is not too long.
 #[tactic(auto, using(outcome_terms::proofs::Readings::read_follows))]
@@ -23,7 +21,7 @@ pub fn bytes_under<S: Shelf>(alloc: Global, shelf: &mut S, name: &str) -> Result
     requires { IsTrue (is_name name.now) }
     ensures bytes { Follows (blob name.now) (store S.holds S.counts shelf.old) (store S.holds S.counts shelf.new)
         (seen (λ bytes. bytes.items) result) }
-    ensures short { IfOk result (λ bytes. length bytes.items ≤ blob_limit) }
+    ensures short { IfOk result (λ bytes. length bytes.items ≤ BLOB_LIMIT) }
 {
     fetched(alloc, shelf, name)
 }
@@ -32,7 +30,7 @@ fn fetched<S: Shelf>(alloc: Global, shelf: &mut S, name: &str) -> Result<Vec<u8>
     requires { IsTrue (is_name name.now) }
     ensures bytes { Reads name.now (store S.holds S.counts shelf.old) (store S.holds S.counts shelf.new)
         (seen (λ bytes. bytes.items) result) }
-    ensures short { IfOk result (λ bytes. length bytes.items ≤ blob_limit) }
+    ensures short { IfOk result (λ bytes. length bytes.items ≤ BLOB_LIMIT) }
 {
     match fetch(alloc, shelf, name, BLOB_LIMIT) {
         Ok(bytes) => Ok(bytes),

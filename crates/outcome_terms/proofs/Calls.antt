@@ -6,6 +6,7 @@ use Rattle.std.specs.List.{list_any}
 use Rattle.std.proofs.lemmas.Bool.{eq-eqb}
 use Rattle.shelf_terms.specs.Blobs.{Blobs}
 use Rattle.shelf_terms.specs.Counts.{Rose, Tally}
+use Rattle.register_terms.specs.declared.refusal.NameRefusal.TheVariants as names
 use Rattle.outcome_terms.specs.declared.status.Status.{Status}
 use Rattle.outcome_terms.specs.declared.status.Status.TheVariants as status
 use Rattle.outcome_terms.specs.declared.fault.Fault.{Fault}
@@ -45,6 +46,9 @@ is_general s = false
 content_is_not : (f : Fault) → is_general (fault_line f).status ≡ false
 unfolding is_general
 content_is_not (fault.BadRegister at) = refl
+content_is_not (fault.NotEnrolled names.BadName) = refl
+content_is_not (fault.NotEnrolled (names.NameTaken serial)) = refl
+content_is_not (fault.NotEnrolled (names.Full licensees)) = refl
 content_is_not _ = refl
 
 never : {X : Type 0} → true ≡ false → X

@@ -2,11 +2,12 @@
 use Rattle.std.proofs.Common.{◌≡◌, ◌∙◌, ℕ, List, Bool, true, false, cond, Option, Some, None, Result, Ok, Err, refl, sym, ap}
 use Rattle.std.specs.Prelude.{nat_le, length}
 use Rattle.std.specs.Option.{option_map}
+use Rattle.shelf_terms.specs.declared.limit.TheConstants.{BLOB_LIMIT}
 use Rattle.shelf_terms.specs.Blobs.{Blobs, blob_at}
 use Rattle.outcome_terms.specs.declared.fault.Fault.{Fault}
 use Rattle.outcome_terms.specs.declared.refusal.Refusal.{Refusal}
 use Rattle.outcome_terms.specs.declared.refusal.Refusal.TheVariants.{TooLong}
-use Rattle.outcome_terms.specs.Reading.{Reading, Give, Refuse, Read, ◌>>=◌, ◌>>◌, require, blob, understood, blob_limit, within_limit, read_blob, with_bytes, given}
+use Rattle.outcome_terms.specs.Reading.{Reading, Give, Refuse, Read, ◌>>=◌, ◌>>◌, require, blob, understood, within_limit, read_blob, with_bytes, given}
 
 pub record Took {A B : Type 0} (blobs : Blobs) (reading : Reading A) (f : A → Reading B) (y : B) : Type 0 where
   pub value : A
@@ -55,7 +56,7 @@ was_understood blobs fault (Err f) x h = cc
 
 was_within : (name : List ℕ) (found : Option (List ℕ)) (bytes : List ℕ) → within_limit name found ≡ Ok bytes → found ≡ Some bytes
 was_within name None bytes h = cc
-was_within name (Some read) bytes h = go (nat_le (length read) blob_limit) h
+was_within name (Some read) bytes h = go (nat_le (length read) BLOB_LIMIT) h
   where
     go : (b : Bool) → cond b (Ok read) (Err (TooLong name)) ≡ Ok bytes → Some read ≡ Some bytes
     go true h = cc

@@ -1,6 +1,8 @@
 -- What a done command says, from what its reading gave.
 use Rattle.std.proofs.Common.{◌≡◌, ◌≢◌, ◌∙◌, ℕ, ◌<◌, List, true, Option, Some, None, Result, Ok, Err, refl, sym, ap, subst, arith}
 use Rattle.std.specs.Prelude.{not, nat_lt, length}
+use Rattle.std.specs.Option.{option_map}
+use Rattle.std.specs.Result.{result_err}
 use Rattle.std.specs.Str.{bytes_eq}
 use Rattle.std.specs.FinMap.{insert}
 use Rattle.std.proofs.lemmas.Bool.Decides.{nat_tests}
@@ -9,15 +11,17 @@ use Rattle.shelf_terms.specs.Blobs.{Blobs}
 use Rattle.code_terms.specs.Words.{readable}
 use Rattle.code_terms.specs.WordText.{word_of}
 use Rattle.register_terms.specs.Enrolment.{Enrolment, names_of, capacity, serial_of}
-use Rattle.register_terms.specs.Rules.{empty_register, with_name, with_withdrawn, is_active, are_bits, is_dimension, is_multiplier, is_shift}
+use Rattle.register_terms.specs.Rules.{empty_register, with_name, with_withdrawn, is_active, broken_rule, enrolment_of, kind_of}
 use Rattle.register_terms.specs.RegisterText.{register_of, register_text}
+use Rattle.register_terms.specs.declared.refusal.NameRefusal.{NameRefusal}
 use Rattle.register_terms.proofs.Serials.{bytes_eq-own}
+use Rattle.register_terms.proofs.Growing.{is_welcome}
+use Rattle.register_terms.proofs.HeaderLines.{rule_of}
 use Rattle.desk_terms.specs.Findings.{findings, is_allowed_bound, not_enough}
 use Rattle.desk_terms.specs.Report.{report_text}
 use Rattle.outcome_terms.specs.declared.refusal.Refusal.{Refusal}
 use Rattle.outcome_terms.specs.declared.fault.Fault.{Fault}
-use Rattle.outcome_terms.specs.declared.fault.Fault.TheVariants.{Unknown, Withdrawn, BadRegister, BadBound, TooFew, NameTaken, BadName, Full, SameName, BadWord, BadParameters}
-use Rattle.outcome_terms.specs.declared.parameter_rule.ParameterRule.TheVariants.{Bits, Dimension, Multiplier, Shift}
+use Rattle.outcome_terms.specs.declared.fault.Fault.TheVariants.{Unknown, Withdrawn, BadRegister, BadBound, TooFew, NotEnrolled, SameName, BadWord, BadParameters}
 use Rattle.outcome_terms.specs.Reading.{found, blob, understood, given}
 use Rattle.outcome_terms.specs.Stores.{Writing, Exactly, IsWriting}
 use Rattle.outcome_terms.specs.Registers.{register_under}
@@ -61,16 +65,14 @@ pub register_made : (blobs : Blobs) (m k a b : ℕ) (out : List ℕ) (told : Opt
 unfolding make
 register_made blobs m k a b out told before after h =
     let w = written blobs out (given blobs (make m k a b)) told before after h in
-    let bits = met blobs (are_bits m) (BadParameters Bits) _ w.writing w.is in
-    let dimension = met blobs (is_dimension k) (BadParameters Dimension) _ w.writing bits.then in
-    let multiplier = met blobs (is_multiplier m k a) (BadParameters Multiplier) _ w.writing dimension.then in
-    let shift = met blobs (is_shift m k b) (BadParameters Shift) _ w.writing multiplier.then in
+    let unbroken = not_found blobs BadParameters (broken_rule m k a b) _ w.writing w.is in
+    let rule = rule_of m k a b unbroken.none in
     record {
-      bits = bits.so;
-      dimension = dimension.so;
-      multiplier = multiplier.so;
-      shift = shift.so;
-      after = exactly blobs out (register_text (empty_register m k a b)) w.writing told (was_given blobs _ w.writing shift.then) w.has;
+      bits = rule.bits;
+      dimension = rule.dimension;
+      multiplier = rule.multiplier;
+      shift = rule.shift;
+      after = exactly blobs out (register_text (empty_register m k a b)) w.writing told (was_given blobs _ w.writing unbroken.then) w.has;
     }
 
 record Joined (e : Enrolment) (name : List ℕ) (f : Enrolment) : Type 0 where
@@ -82,10 +84,10 @@ record Joined (e : Enrolment) (name : List ℕ) (f : Enrolment) : Type 0 where
 joined : (blobs : Blobs) (e : Enrolment) (name : List ℕ) (f : Enrolment) → given blobs (enrolled e name) ≡ Ok f → Joined e name f
 unfolding enrolled
 joined blobs e name f h =
-    let plain = met blobs (is_plain name) BadName _ f h in
-    let none = not_found blobs NameTaken (serial_of (names_of e.licensees) name) _ f plain.then in
-    let room = met blobs (nat_lt (length e.licensees) (capacity e)) (Full (length e.licensees)) _ f none.then in
-    record { plain = plain.so; new_name = none.none; room = (let so = room.so in grind (arith, nat_tests)); is = was_given blobs (with_name e name) f room.then }
+    let first = took blobs (understood NotEnrolled (enrolment_of e name)) _ f h in
+    let gets = was_understood blobs NotEnrolled (enrolment_of e name) first.value first.first in
+    let welcome = is_welcome e name (ap (λ (r : Result ℕ NameRefusal). option_map kind_of (result_err r)) gets) in
+    record { plain = welcome.plain; new_name = welcome.new; room = welcome.room; is = was_given blobs (with_name e name) f first.then }
 
 record Left (e : Enrolment) (name : List ℕ) (f : Enrolment) : Type 0 where
   serial : ℕ

@@ -7,14 +7,15 @@ use Rattle.text_terms.specs.Names.{is_plain}
 use Rattle.code_terms.specs.declared.word_fault.WordFault.{WordFault}
 use Rattle.code_terms.specs.Words.{readable}
 use Rattle.code_terms.specs.WordText.{word_of}
-use Rattle.register_terms.specs.Enrolment.{Enrolment, names_of, capacity, serial_of}
-use Rattle.register_terms.specs.Rules.{is_active, are_bits, is_dimension, is_multiplier, is_shift}
+use Rattle.register_terms.specs.Enrolment.{Enrolment, names_of, serial_of}
+use Rattle.register_terms.specs.Rules.{is_active, broken_rule, enrolment_of}
 use Rattle.register_terms.specs.RegisterText.{RegisterFault, register_of}
 use Rattle.desk_terms.specs.Findings.{is_allowed_bound, not_enough}
+use Rattle.register_terms.specs.declared.refusal.NameRefusal.{NameRefusal}
+use Rattle.register_terms.specs.declared.refusal.NameRefusal.TheVariants as refusals
 use Rattle.outcome_terms.specs.declared.status.Status.{Status}
 use Rattle.outcome_terms.specs.declared.fault.Fault.{Fault}
-use Rattle.outcome_terms.specs.declared.fault.Fault.TheVariants.{Unknown, Withdrawn, BadRegister, BadBound, TooFew, NameTaken, BadName, Full, SameName, BadWord, BadParameters}
-use Rattle.outcome_terms.specs.declared.parameter_rule.ParameterRule.TheVariants.{Bits, Dimension, Multiplier, Shift}
+use Rattle.outcome_terms.specs.declared.fault.Fault.TheVariants.{Unknown, Withdrawn, BadRegister, BadBound, TooFew, NotEnrolled, SameName, BadWord, BadParameters}
 use Rattle.outcome_terms.specs.Statuses.{fault_line}
 use Rattle.outcome_terms.specs.Reading.{Reading, Give, Refuse, Read, ◌>>=◌, ◌>>◌, require, found, blob, understood, AllowsReads, Within}
 use Rattle.outcome_terms.specs.Registers.{register_under}
@@ -65,6 +66,10 @@ module _ (may : Status → Bool) where
   within_words true fault next is h = h is
   within_words false fault next is h = cc
 
+  within_unbroken : {A X : Type 0} (fault : X → Fault) (broken : Option X) (next : Reading A) → first_refusal (option_map fault broken >> next) ≡ None → (first_refusal next ≡ None → Within may next) → Within may (option_map fault broken >> next)
+  within_unbroken fault None next is h = h is
+  within_unbroken fault (Some x) next is h = cc
+
   register_within : (name : List ℕ) → AllowsReads may → ((f : RegisterFault) → may (fault_line (BadRegister f)).status ≡ true) → Within may (register_under name)
   unfolding register_under
   register_within name reads h = within_then (blob name) (λ bytes. understood BadRegister (register_of bytes)) (within_blob name reads) (λ bytes. within_understood BadRegister (register_of bytes) h)
@@ -79,15 +84,18 @@ pub make_within : (m k a b : ℕ) → first_refusal (make m k a b) ≡ None → 
 unfolding make
 make_within m k a b is =
     let may = may_end make_statuses in
-    within_words may (are_bits m) (BadParameters Bits) _ is (λ is. within_words may (is_dimension k) (BadParameters Dimension) _ is
-    (λ is. within_words may (is_multiplier m k a) (BadParameters Multiplier) _ is (λ is. within_words may (is_shift m k b) (BadParameters Shift) _ is (λ is. within_give may _))))
+    within_unbroken may BadParameters (broken_rule m k a b) _ is (λ is. within_give may _)
 
 enrolled_within : (e : Enrolment) (name : List ℕ) → Within (may_end enrol_statuses) (enrolled e name)
 unfolding enrolled
 enrolled_within e name =
     let may = may_end enrol_statuses in
-    within_met may (is_plain name) BadName _ refl (within_none may NameTaken (serial_of (names_of e.licensees) name) _ (λ serial. refl)
-    (within_met may (nat_lt (length e.licensees) (capacity e)) (Full (length e.licensees)) _ refl (within_give may _)))
+    within_then may (understood NotEnrolled (enrolment_of e name)) _ (within_understood may NotEnrolled (enrolment_of e name) may_refuse) (λ serial. within_give may _)
+  where
+    may_refuse : (why : NameRefusal) → may_end enrol_statuses (fault_line (NotEnrolled why)).status ≡ true
+    may_refuse refusals.BadName = refl
+    may_refuse (refusals.NameTaken serial) = refl
+    may_refuse (refusals.Full licensees) = refl
 
 pub enrol_within : (register name out : List ℕ) → first_refusal (enrol register name out) ≡ None → Within (may_end enrol_statuses) (enrol register name out)
 unfolding enrol

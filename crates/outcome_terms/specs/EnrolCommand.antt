@@ -1,15 +1,13 @@
 -- `enrol REG NAME OUT`: a register with one more licensee. This project's own.
-use Rattle.std.specs.Prelude.{ℕ, List, [], ◌∷◌, length, not, nat_lt, Option, Some, None}
-use Rattle.std.specs.Option.{option_map}
+use Rattle.std.specs.Prelude.{ℕ, List, [], ◌∷◌, not, Option, Some, None}
 use Rattle.std.specs.Str.{bytes_eq}
-use Rattle.text_terms.specs.Names.{is_plain}
-use Rattle.register_terms.specs.Enrolment.{Enrolment, names_of, capacity, serial_of}
-use Rattle.register_terms.specs.Rules.{with_name}
+use Rattle.register_terms.specs.Enrolment.{Enrolment}
+use Rattle.register_terms.specs.Rules.{with_name, enrolment_of}
 use Rattle.register_terms.specs.RegisterText.{register_text}
-use Rattle.outcome_terms.specs.declared.fault.Fault.TheVariants.{BadName, NameTaken, Full, SameName}
+use Rattle.outcome_terms.specs.declared.fault.Fault.TheVariants.{NotEnrolled, SameName}
 use Rattle.outcome_terms.specs.Request.{Request, Enrol}
 use Rattle.outcome_terms.specs.Words.{◌>>?◌, named}
-use Rattle.outcome_terms.specs.Reading.{Reading, Give, ◌>>=◌, ◌>>◌, require}
+use Rattle.outcome_terms.specs.Reading.{Reading, Give, ◌>>=◌, ◌>>◌, require, understood}
 use Rattle.outcome_terms.specs.Stores.{Writing, Exactly}
 use Rattle.outcome_terms.specs.Registers.{register_under}
 
@@ -21,9 +19,7 @@ enrol_of _ = None
 -- the register with the name
 unfoldable pub enrolled : Enrolment → List ℕ → Reading Enrolment
 enrolled e name = do
-  require (is_plain name) BadName
-  option_map NameTaken (serial_of (names_of e.licensees) name)
-  require (nat_lt (length e.licensees) (capacity e)) (Full (length e.licensees))
+  serial ← understood NotEnrolled (enrolment_of e name)
   Give (with_name e name)
 
 -- the text of the register with the name

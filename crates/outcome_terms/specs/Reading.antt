@@ -1,5 +1,6 @@
 -- What a command makes of the blobs that it reads, one after the other. This project's own.
 use Rattle.std.specs.Prelude.{◌≡◌, ℕ, List, [], ◌∷◌, length, nat_le, Bool, true, Option, Some, None, Result, Ok, Err, ⊤, if◌then◌else◌}
+use Rattle.shelf_terms.specs.declared.limit.TheConstants.{BLOB_LIMIT}
 use Rattle.shelf_terms.specs.Blobs.{Blobs, blob_at}
 use Rattle.outcome_terms.specs.declared.status.Status.{Status}
 use Rattle.outcome_terms.specs.declared.status.Status.TheVariants as status
@@ -55,13 +56,10 @@ each step (x ∷ xs) = do
 
 -- ---- over a map of blobs
 
--- a blob is read where it is at most so long
-abbrev pub blob_limit : ℕ
-blob_limit = 67108864
-
+-- a blob is read where it is not above the limit
 abbrev pub within_limit : List ℕ → Option (List ℕ) → Result (List ℕ) Refusal
 within_limit name None = Err (Missing name)
-within_limit name (Some bytes) = if nat_le (length bytes) blob_limit then Ok bytes else Err (TooLong name)
+within_limit name (Some bytes) = if nat_le (length bytes) BLOB_LIMIT then Ok bytes else Err (TooLong name)
 
 -- the bytes under a name
 abbrev pub read_blob : Blobs → List ℕ → Result (List ℕ) Refusal

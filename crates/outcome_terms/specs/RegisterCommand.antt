@@ -1,13 +1,13 @@
 -- `register M K A B OUT`: a register without licensees. This project's own.
 use Rattle.std.specs.Prelude.{ℕ, List, [], ◌∷◌, Option, Some, None}
+use Rattle.std.specs.Option.{option_map}
 use Rattle.text_terms.specs.Numbers.{number_of}
-use Rattle.register_terms.specs.Rules.{empty_register, are_bits, is_dimension, is_multiplier, is_shift}
+use Rattle.register_terms.specs.Rules.{empty_register, broken_rule}
 use Rattle.register_terms.specs.RegisterText.{register_text}
 use Rattle.outcome_terms.specs.declared.fault.Fault.TheVariants.{BadParameters}
-use Rattle.outcome_terms.specs.declared.parameter_rule.ParameterRule.TheVariants.{Bits, Dimension, Multiplier, Shift}
 use Rattle.outcome_terms.specs.Request.{Request, Make}
 use Rattle.outcome_terms.specs.Words.{◌>>?◌, named}
-use Rattle.outcome_terms.specs.Reading.{Reading, Give, ◌>>◌, require}
+use Rattle.outcome_terms.specs.Reading.{Reading, Give, ◌>>◌}
 use Rattle.outcome_terms.specs.Stores.{Writing, Exactly}
 
 -- four numbers and a blob's name
@@ -22,10 +22,7 @@ make_of _ = None
 -- the text of the register
 unfoldable pub make : (m k a b : ℕ) → Reading Writing
 make m k a b = do
-  require (are_bits m) (BadParameters Bits)
-  require (is_dimension k) (BadParameters Dimension)
-  require (is_multiplier m k a) (BadParameters Multiplier)
-  require (is_shift m k b) (BadParameters Shift)
+  option_map BadParameters (broken_rule m k a b)
   Give (Exactly (register_text (empty_register m k a b)))
 
 -- the numbers of the statuses that it ends with, where the words do not refuse it

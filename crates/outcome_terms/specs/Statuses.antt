@@ -5,8 +5,10 @@ use Rattle.code_terms.specs.declared.word_fault.WordFault.{WordFault}
 use Rattle.code_terms.specs.declared.word_fault.WordFault.TheVariants as word
 use Rattle.register_terms.specs.declared.fault.RegisterKind.{RegisterKind}
 use Rattle.register_terms.specs.declared.fault.RegisterKind.TheVariants as kind
-use Rattle.outcome_terms.specs.declared.parameter_rule.ParameterRule.{ParameterRule}
-use Rattle.outcome_terms.specs.declared.parameter_rule.ParameterRule.TheVariants as rules
+use Rattle.register_terms.specs.declared.refusal.RegisterError.{RegisterError}
+use Rattle.register_terms.specs.declared.refusal.RegisterError.TheVariants as rules
+use Rattle.register_terms.specs.declared.refusal.NameRefusal.{NameRefusal}
+use Rattle.register_terms.specs.declared.refusal.NameRefusal.TheVariants as names
 use Rattle.outcome_terms.specs.declared.status.Status.{Status}
 use Rattle.outcome_terms.specs.declared.status.Status.TheVariants as status
 use Rattle.outcome_terms.specs.declared.fault.Fault.{Fault}
@@ -49,11 +51,11 @@ kind_text kind.NameTaken = codes "name-taken"
 kind_text kind.Full = codes "full"
 
 -- which rule the numbers of a new register break
-abbrev pub rule_text : ParameterRule → List ℕ
-rule_text rules.Bits = codes "bad-m"
-rule_text rules.Dimension = codes "bad-k"
-rule_text rules.Multiplier = codes "bad-multiplier"
-rule_text rules.Shift = codes "bad-shift"
+abbrev pub rule_text : RegisterError → List ℕ
+rule_text rules.BadM = codes "bad-m"
+rule_text rules.BadK = codes "bad-k"
+rule_text rules.BadMultiplier = codes "bad-multiplier"
+rule_text rules.BadShift = codes "bad-shift"
 
 -- how a blob breaks the form of a word
 abbrev pub word_fault_text : WordFault → List ℕ
@@ -68,14 +70,18 @@ pub record Line : Type 0 where
 abbrev pub says : Status → List ℕ → Line
 says s detail = record { status = s; detail = detail }
 
+-- why a name is not enrolled
+abbrev pub name_line : NameRefusal → Line
+name_line names.BadName = says status.BadName (codes "name")
+name_line (names.NameTaken serial) = says status.NameTaken (decimal serial)
+name_line (names.Full licensees) = says status.Full (decimal licensees)
+
 -- what the words or the blobs are refused with
 abbrev pub fault_line : Fault → Line
 fault_line (fault.BadRegister at) = says status.BadRegister (decimal at.line ++ (codes " " ++ kind_text at.kind))
 fault_line (fault.BadBound bound) = says status.BadBound (decimal bound)
 fault_line (fault.TooFew readable not_enough) = says status.TooFew (decimal readable ++ (codes " " ++ decimal not_enough))
-fault_line (fault.NameTaken serial) = says status.NameTaken (decimal serial)
-fault_line fault.BadName = says status.BadName (codes "name")
-fault_line (fault.Full licensees) = says status.Full (decimal licensees)
+fault_line (fault.NotEnrolled refusal) = name_line refusal
 fault_line (fault.Unknown name) = says status.Unknown name
 fault_line (fault.Withdrawn name) = says status.Withdrawn name
 fault_line (fault.SameName name) = says status.SameName name

@@ -1,9 +1,8 @@
 //! What the words or the blobs are refused with.
 
-use crate::parameter_rule::ParameterRule;
 use code_terms::WordFault;
 use lists::Text;
-use register_terms::RegisterFault;
+use register_terms::{NameRefusal, RegisterError, RegisterFault};
 
 /// A refusal that the words and the blobs decide, with the detail of its error line.
 #[derive(Debug, Drop)]
@@ -19,12 +18,8 @@ pub enum Fault {
         /// The number that has to be exceeded: the bound's square times one less than the dimension.
         not_enough: u32,
     },
-    /// The licensee with this serial has the name.
-    NameTaken(u32),
-    /// The name is no plain name.
-    BadName,
-    /// The register is full with so many licensees.
-    Full(u32),
+    /// The name is not enrolled, for this reason.
+    NotEnrolled(NameRefusal),
     /// No licensee has the name.
     Unknown(Text),
     /// The licensee with this name is withdrawn.
@@ -34,5 +29,5 @@ pub enum Fault {
     /// The blob is no word: the first token that breaks the form, or too many.
     BadWord(WordFault),
     /// The numbers make no register: the first rule that they break.
-    BadParameters(ParameterRule),
+    BadParameters(RegisterError),
 }

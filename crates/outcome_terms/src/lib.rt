@@ -3,12 +3,10 @@
 
 mod fault;
 mod laws;
-mod parameter_rule;
 mod refusal;
 mod status;
 
 pub use fault::Fault;
 pub use laws::{readings_compose, worked_examples};
-pub use parameter_rule::ParameterRule;
 pub use refusal::Refusal;
 pub use status::Status;

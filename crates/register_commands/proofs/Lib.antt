@@ -1,1 +1,2 @@
 pub mod Withdrawals
+pub mod Enrolments

@@ -6,7 +6,7 @@ ghost use Rattle.outcome_terms.specs.EnrolCommand.{enrol, enrolled};
 ghost use Rattle.outcome_terms.specs.Stores.{Exactly, Follows, Settles, seen, store};
 
 use command_io::register_under;
-use lic_register::{EnrolError, Register};
+use lic_register::{EnrolError, NameRefusal, Register};
 use lists::Text;
 use outcome_terms::{Fault, Refusal};
 use shelf_io::Shelf;
@@ -36,15 +36,21 @@ pub fn enrolled_text<S: Shelf, Q: Ledger>(
 }
 
 /// Enrols the name.
-#[tactic(auto, unfolding(outcome_terms::specs::EnrolCommand::enrolled))]
+#[tactic(auto, using(crate::proofs::Enrolments::was_enrolled, crate::proofs::Enrolments::was_refused))]
 fn enrol(register: &mut Register, name: &str) -> Result<(), Refusal>
     ensures { Settles (seen (λ _. register.new) result) (enrolled register.old name.now) }
 {
     match register.enrol(name) {
         Ok(_) => Ok(()),
-        Err(EnrolError::BadName) => Err(Refusal::Content(Fault::BadName)),
-        Err(EnrolError::NameTaken(serial)) => Err(Refusal::Content(Fault::NameTaken(serial))),
-        Err(EnrolError::Full(licensees)) => Err(Refusal::Content(Fault::Full(licensees))),
+        Err(EnrolError::BadName) => Err(refused(NameRefusal::BadName)),
+        Err(EnrolError::NameTaken(serial)) => Err(refused(NameRefusal::NameTaken(serial))),
+        Err(EnrolError::Full(licensees)) => Err(refused(NameRefusal::Full(licensees))),
         Err(EnrolError::Memory) => Err(Refusal::Memory),
     }
+}
+
+fn refused(why: NameRefusal) -> Refusal
+    ensures { result ≡ Refusal.Content (Fault.NotEnrolled why) }
+{
+    Refusal::Content(Fault::NotEnrolled(why))
 }

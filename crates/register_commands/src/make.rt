@@ -4,8 +4,8 @@ ghost use Rattle.std.specs.Prelude.{◌≡◌, min};
 ghost use Rattle.outcome_terms.specs.RegisterCommand.{make};
 ghost use Rattle.outcome_terms.specs.Stores.{Exactly, Settles, seen};
 
-use lic_register::{Register, RegisterError};
-use outcome_terms::{Fault, ParameterRule, Refusal};
+use lic_register::Register;
+use outcome_terms::{Fault, Refusal};
 use std::alloc::Global;
 use steps::{Ledger, Steps};
 
@@ -23,17 +23,8 @@ pub fn register_text<Q: Ledger>(
 {
     match Register::new(alloc, small(m), small(k), a, b) {
         Ok(register) => Ok(register.write(looks)?),
-        Err(RegisterError::BadM) => Err(broken(ParameterRule::Bits)),
-        Err(RegisterError::BadK) => Err(broken(ParameterRule::Dimension)),
-        Err(RegisterError::BadMultiplier) => Err(broken(ParameterRule::Multiplier)),
-        Err(RegisterError::BadShift) => Err(broken(ParameterRule::Shift)),
+        Err(rule) => Err(Refusal::Content(Fault::BadParameters(rule))),
     }
-}
-
-fn broken(rule: ParameterRule) -> Refusal
-    ensures { result ≡ Refusal.Content (Fault.BadParameters rule) }
-{
-    Refusal::Content(Fault::BadParameters(rule))
 }
 
 /// The number, or where it has more than 32 bits the greatest that has not.

@@ -1,5 +1,5 @@
 -- The first five lines: what is written is read, and what is read was written.
-use Rattle.std.proofs.Common.{◌≡◌, ℕ, ◌*◌, ◌%◌, ◌^◌, ◌≤◌, Bool, true, false, cond, eqb, codes, List, [], ◌∷◌, ◌++◌, Some, None, Ok, refl, subst, arith}
+use Rattle.std.proofs.Common.{◌≡◌, ℕ, ◌*◌, ◌%◌, ◌^◌, ◌≤◌, Bool, true, false, cond, not, eqb, codes, List, [], ◌∷◌, ◌++◌, Some, None, Ok, refl, subst, arith}
 use Rattle.std.specs.Prelude.{nat_le, nat_lt}
 use Rattle.std.specs.Str.{bytes_eq}
 use Rattle.std.specs.Fmt.{decimal}
@@ -9,11 +9,12 @@ use Rattle.std.proofs.lemmas.Bool.{and_parts, and_from, eqb-true, eq-eqb, ltb-tr
 use Rattle.form_terms.specs.Forms.{Place, place, row, number_row}
 use Rattle.form_terms.proofs.LineLaws.{same_bytes}
 use Rattle.form_terms.proofs.FormLaws.{Took, took_then, split, join, gave, given, line_read, line_again, number_read, number_again}
+use Rattle.register_terms.specs.declared.refusal.RegisterError.TheVariants as rules
 use Rattle.register_terms.specs.declared.fault.RegisterKind.TheVariants.{BadM, BadK, BadMultiplier, BadShift}
 use Rattle.register_terms.specs.declared.edition.Edition.{Edition}
 use Rattle.register_terms.specs.declared.edition.Edition.TheVariants.{Newer, Older}
 use Rattle.register_terms.specs.Enrolment.{Enrolment, IsValid, message_count}
-use Rattle.register_terms.specs.Rules.{are_bits, is_dimension, is_multiplier, is_shift, empty_register, with_licensees}
+use Rattle.register_terms.specs.Rules.{are_bits, is_dimension, is_multiplier, is_shift, broken_rule, empty_register, with_licensees}
 use Rattle.register_terms.specs.RegisterText.{edition_line, edition_in, header, header_lines, header_form}
 
 -- ---- the rules
@@ -50,6 +51,18 @@ is_rule e valid = record {
   multiplier = and_from (eqb (e.multiplier % 2) 1) (nat_lt e.multiplier (message_count e)) (eq-eqb (e.multiplier % 2) 1 valid.odd) (lt-ltb e.multiplier (message_count e) valid.multiplier_below);
   shift = lt-ltb e.shift (message_count e) valid.shift_below;
 }
+
+rule_by : (m k a b : ℕ) (bits dimension multiplier shift : Bool) → are_bits m ≡ bits → is_dimension k ≡ dimension → is_multiplier m k a ≡ multiplier → is_shift m k b ≡ shift
+    → cond (not bits) (Some rules.BadM) (cond (not dimension) (Some rules.BadK) (cond (not multiplier) (Some rules.BadMultiplier) (cond (not shift) (Some rules.BadShift) None))) ≡ None → IsRule m k a b
+rule_by m k a b true true true true bits dimension multiplier shift none = record { bits = bits; dimension = dimension; multiplier = multiplier; shift = shift }
+rule_by m k a b false dimension multiplier shift is is_too also last none = absurd cc
+rule_by m k a b true false multiplier shift is is_too also last none = absurd cc
+rule_by m k a b true true false shift is is_too also last none = absurd cc
+rule_by m k a b true true true false is is_too also last none = absurd cc
+
+-- what four numbers keep that break no rule
+pub rule_of : (m k a b : ℕ) → broken_rule m k a b ≡ None → IsRule m k a b
+rule_of m k a b none = rule_by m k a b (are_bits m) (is_dimension k) (is_multiplier m k a) (is_shift m k b) refl refl refl refl none
 
 -- ---- the line of the edition
 

@@ -3,6 +3,10 @@
 //! The laws over these definitions are the contracts of functions with an empty body.
 #![tactic(auto)]
 
+mod limit;
+
+pub use limit::BLOB_LIMIT;
+
 ghost use Rattle.std.specs.Prelude.{◌≡◌, Bool, false, List, [], ◌∷◌, ℕ};
 ghost use Rattle.shelf_terms.specs.Counts.{Tally};
 ghost use Rattle.shelf_terms.specs.Blobs.{part_of};

@@ -4,7 +4,7 @@ ghost use Rattle.std.specs.Prelude.{◌≡◌, ◌≤◌, ◌^◌, length, IfOk,
 ghost use Rattle.text_terms.specs.Names.{is_name};
 ghost use Rattle.code_terms.specs.WordText.{word_of};
 ghost use Rattle.outcome_terms.specs.declared.fault.Fault.TheVariants.{BadWord};
-ghost use Rattle.outcome_terms.specs.Reading.{blob_limit, understood};
+ghost use Rattle.outcome_terms.specs.Reading.{understood};
 ghost use Rattle.outcome_terms.specs.AccuseCommand.{word_under};
 ghost use Rattle.outcome_terms.specs.Stores.{Follows, Settles, store};
 
@@ -13,6 +13,7 @@ use lic_register::Register;
 use outcome_terms::{Fault, Refusal};
 use rs_code::{Word, WordError};
 use shelf_io::Shelf;
+use shelf_terms::BLOB_LIMIT;
 use std::alloc::Global;
 
 /// The word that a blob holds, over the symbols of this register.
@@ -35,7 +36,7 @@ pub fn word_under<S: Shelf>(
 fn word_of_bytes(alloc: Global, bytes: Vec<u8>, m: u32) -> Result<Word, Refusal>
     requires low { 4 ≤ m }
     requires high { m ≤ 8 }
-    requires short { length bytes.items ≤ blob_limit }
+    requires short { length bytes.items ≤ BLOB_LIMIT }
     ensures word { Settles result (understood BadWord (word_of m bytes.items)) }
     ensures least { IfOk result (λ word. 1 ≤ length word) }
     ensures most { IfOk result (λ word. length word ≤ 2 ^ m) }
