@@ -4,10 +4,9 @@
 use lists::Text;
 use m3u8_text::ListReader;
 use shelf_io::{FolderShelf, Sink, StdSink, pour};
+use shelf_terms::BLOB_LIMIT;
 use std::process::ExitCode;
 use texts::number_text;
-
-const LIMIT: u64 = 67_108_864;
 
 fn main(rt: HostRuntime) -> ExitCode {
     ExitCode::from(answered(rt))
@@ -22,7 +21,7 @@ fn answered(rt: HostRuntime) -> u8 {
     let mut out = StdSink::new(rt.stdout());
     let mut shelf = FolderShelf::new(rt, folder);
     let mut reader = ListReader::new(alloc);
-    if pour(alloc, &mut shelf, "list", LIMIT, &mut reader).is_err() {
+    if pour(alloc, &mut shelf, "list", BLOB_LIMIT, &mut reader).is_err() {
         return 3;
     }
     let Ok(list) = reader.finish() else {
