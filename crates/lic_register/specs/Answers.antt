@@ -1,5 +1,6 @@
 -- Which answer each call gives. Want of memory is the one answer that is always free.
 use Rattle.std.specs.Prelude.{◌≡◌, ℕ, Option, Some, None, Result, Ok, Err, if◌then◌else◌, List}
+use Rattle.text_terms.specs.Answers.{RefusesAs, AnswersAs}
 use Rattle.register_terms.specs.Enrolment.{Enrolment, names_of, serial_of}
 use Rattle.register_terms.specs.Rules.{is_active}
 use Rattle.register_terms.specs.RegisterText.{RegisterFault}
@@ -12,13 +13,15 @@ use Rattle.lic_register.specs.declared.errors.WithdrawError.TheVariants.{Unknown
 use Rattle.lic_register.specs.declared.errors.RegisterReadError.{RegisterReadError}
 use Rattle.lic_register.specs.declared.errors.RegisterReadError.TheVariants as read_errors
 
+abbrev pub refusal_in : EnrolError → Option NameRefusal
+refusal_in enrol_errors.BadName = Some BadName
+refusal_in (enrol_errors.NameTaken serial) = Some (NameTaken serial)
+refusal_in (enrol_errors.Full licensees) = Some (Full licensees)
+refusal_in enrol_errors.Memory = None
+
 -- what was answered is what is wanted, unless memory ran out
 abbrev pub EnrolsAs : Result ℕ EnrolError → Result ℕ NameRefusal → Type 0
-EnrolsAs (Ok serial) wanted = wanted ≡ Ok serial
-EnrolsAs (Err enrol_errors.BadName) wanted = wanted ≡ Err BadName
-EnrolsAs (Err (enrol_errors.NameTaken serial)) wanted = wanted ≡ Err (NameTaken serial)
-EnrolsAs (Err (enrol_errors.Full licensees)) wanted = wanted ≡ Err (Full licensees)
-EnrolsAs (Err enrol_errors.Memory) wanted = Unit {0}
+EnrolsAs result wanted = AnswersAs refusal_in result wanted
 
 -- the serial that is withdrawn, or why none is
 abbrev pub withdrawal_at : Enrolment → Option ℕ → Result ℕ WithdrawError
@@ -28,11 +31,13 @@ withdrawal_at e (Some serial) = if is_active e serial then Ok serial else Err (A
 abbrev pub withdrawal_of : Enrolment → List ℕ → Result ℕ WithdrawError
 withdrawal_of e name = withdrawal_at e (serial_of (names_of e.licensees) name)
 
+abbrev pub fault_in : RegisterReadError → Option RegisterFault
+fault_in (read_errors.NotRegister fault) = Some fault
+fault_in read_errors.Memory = None
+
 -- what was read is what the bytes are, unless memory ran out
 abbrev pub IsRefused : RegisterReadError → Result Enrolment RegisterFault → Type 0
-IsRefused read_errors.Memory wanted = Unit {0}
-IsRefused (read_errors.NotRegister fault) wanted = wanted ≡ Err fault
+IsRefused refusal wanted = RefusesAs (fault_in refusal) wanted
 
 abbrev pub ReadsAs : Result Enrolment RegisterReadError → Result Enrolment RegisterFault → Type 0
-ReadsAs (Ok register) wanted = wanted ≡ Ok register
-ReadsAs (Err refusal) wanted = IsRefused refusal wanted
+ReadsAs result wanted = AnswersAs fault_in result wanted

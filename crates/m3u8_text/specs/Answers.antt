@@ -1,5 +1,6 @@
 -- Which answer a call gives. Want of memory is free.
-use Rattle.std.specs.Prelude.{◌≡◌, ℕ, ◌^◌, ◌<◌, ◌≤◌, Bool, true, false, List, Result, Ok, Err}
+use Rattle.std.specs.Prelude.{◌≡◌, ℕ, ◌^◌, ◌<◌, ◌≤◌, Bool, true, false, List, Option, Some, None, Result, Ok, Err}
+use Rattle.text_terms.specs.Answers.{AnswersAs}
 use Rattle.playlist_terms.specs.Playlists.{PlaylistSegment, Playlist, is_segment_uri}
 use Rattle.playlist_terms.specs.Reading.{at_line}
 use Rattle.playlist_terms.specs.declared.fault.LineFault.{LineFault}
@@ -15,11 +16,13 @@ MakesSegment (Err segment.BadUri) micros uri cut = is_segment_uri uri ≡ false
 MakesSegment (Err segment.LongDuration) micros uri cut = (is_segment_uri uri ≡ true) × (10 ^ 16 ≤ micros)
 MakesSegment (Err segment.Memory) micros uri cut = Unit {0}
 
+abbrev pub fault_in : PlaylistError → Option LineFault
+fault_in (playlist.Line number fault) = Some (at_line number fault)
+fault_in playlist.Memory = None
+
 -- the playlist or the fault that is wanted
 abbrev pub ReadsAs : Result Playlist PlaylistError → Result Playlist LineFault → Type 0
-ReadsAs (Ok list) wanted = wanted ≡ Ok list
-ReadsAs (Err (playlist.Line number fault)) wanted = wanted ≡ Err (at_line number fault)
-ReadsAs (Err playlist.Memory) wanted = Unit {0}
+ReadsAs result wanted = AnswersAs fault_in result wanted
 
 abbrev pub error_of : LineFault → PlaylistError
 error_of found = playlist.Line found.line found.fault

@@ -278,7 +278,8 @@ status_keeps (Err e) st rose p (inr memory) h = changes_no_more st status.Memory
 
 whole_told : (s : Status) (text : List ℕ) (old new : Option (List ℕ)) → s ≡ status.Ok → TellsAnswer s text old new → TellsWhole text old new
 whole_told s text (Some old) (Some new) ok h = h.whole ok
-whole_told s text None new ok h = tt
+whole_told s text None None ok h = tt
+whole_told s text None (Some new) ok h = h
 whole_told s text (Some old) None ok h = h
 
 effect_of : (wanted : Result Effect Refusal) (blobs : Blobs) (told : Option Blobs) (left : Option (List ℕ)) (s : Status) (before after : Output) → s ≡ status.Ok → LeavesEffect wanted blobs told left → Delivers (Ok left) s before after

@@ -3,6 +3,7 @@ use Rattle.std.specs.Prelude.{◌≡◌, ◌≢◌, ℕ, List, [], ◌∷◌, �
 use Rattle.std.specs.Result.{IsOk, IsErr}
 use Rattle.shelf_terms.specs.Blobs.{Blobs}
 use Rattle.shelf_terms.specs.Counts.{Rose, Tally}
+use Rattle.shelf_terms.specs.Told.{WhereTold}
 use Rattle.outcome_terms.specs.declared.status.Status.{Status}
 use Rattle.outcome_terms.specs.declared.status.Status.TheVariants as status
 use Rattle.outcome_terms.specs.declared.refusal.Refusal.{Refusal}
@@ -54,9 +55,7 @@ pub record SparesBlobs (d : Deed) (s : Status) (old new : Option Blobs) : Type 0
 
 -- all of a text was put, where the output is told
 abbrev pub TellsWhole : List ℕ → Option (List ℕ) → Option (List ℕ) → Type 0
-TellsWhole text (Some old) (Some new) = new ≡ old ++ text
-TellsWhole text None new = ⊤
-TellsWhole text (Some old) None = ⊥
+TellsWhole text old new = WhereTold (λ before after. after ≡ before ++ text) old new
 
 -- a command that is done has its outcome's effect on the blobs and on the output
 abbrev pub HasEffect : Result Effect Refusal → Blobs → Option Blobs → Output → Output → Type 0

@@ -2,6 +2,7 @@
 use Rattle.std.specs.Prelude.{◌≡◌, ◌≢◌, ℕ, List, ◌++◌, Option, Some, None, Result, Ok, Err, codes, ⊤, ◌⊎◌}
 use Rattle.shelf_terms.specs.Counts.{Rose}
 use Rattle.shelf_terms.specs.Puts.{Puts}
+use Rattle.shelf_terms.specs.Told.{WhereTold}
 use Rattle.outcome_terms.specs.declared.status.Status.{Status}
 use Rattle.outcome_terms.specs.declared.status.Status.TheVariants as status
 use Rattle.outcome_terms.specs.declared.refusal.Refusal.{Refusal}
@@ -46,20 +47,14 @@ pub record PutsRefusal (s : Status) (e : Refusal) (rose : Type 0) (old new : Lis
 
 -- a front of a text was put, where the output is told
 abbrev pub TellsFront : List ℕ → Option (List ℕ) → Option (List ℕ) → Type 0
-TellsFront text (Some old) (Some new) = Puts old new text
-TellsFront text None new = ⊤
-TellsFront text (Some old) None = ⊥
+TellsFront text old new = WhereTold (λ before after. Puts before after text) old new
 
 -- the same of an answer's text, and of a refusal's line
 abbrev pub TellsAnswer : Status → List ℕ → Option (List ℕ) → Option (List ℕ) → Type 0
-TellsAnswer s text (Some old) (Some new) = PutsAnswer s text old new
-TellsAnswer s text None new = ⊤
-TellsAnswer s text (Some old) None = ⊥
+TellsAnswer s text old new = WhereTold (PutsAnswer s text) old new
 
 abbrev pub TellsRefusal : Status → Refusal → Type 0 → Option (List ℕ) → Option (List ℕ) → Type 0
-TellsRefusal s e rose (Some old) (Some new) = PutsRefusal s e rose old new
-TellsRefusal s e rose None new = ⊤
-TellsRefusal s e rose (Some old) None = ⊥
+TellsRefusal s e rose old new = WhereTold (PutsRefusal s e rose) old new
 
 -- How an answer is delivered: the status, and what then stands in the output. Where nothing is to be put, the output is not touched.
 pub record PutsText (text : List ℕ) (s : Status) (old new : Output) : Type 0 where

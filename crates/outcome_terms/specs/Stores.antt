@@ -3,6 +3,7 @@ use Rattle.std.specs.Prelude.{◌≡◌, ℕ, ◌≤◌, List, Option, Some, Non
 use Rattle.std.specs.FinMap.{insert}
 use Rattle.shelf_terms.specs.Blobs.{Blobs, SameBut}
 use Rattle.shelf_terms.specs.Counts.{Rose, Tally}
+use Rattle.shelf_terms.specs.Told.{WhereTold}
 use Rattle.outcome_terms.specs.declared.fault.Fault.{Fault}
 use Rattle.outcome_terms.specs.declared.refusal.Refusal.{Refusal}
 use Rattle.outcome_terms.specs.declared.refusal.Refusal.TheVariants as refusal
@@ -86,17 +87,11 @@ IsWriting (Exactly text) bytes = bytes ≡ text
 
 -- where the blobs are told: the name holds the text, and no other blob has changed
 abbrev pub Holds : List ℕ → List ℕ → Option Blobs → Option Blobs → Type 0
-Holds out text (Some old) (Some new) = new ≡ insert old out text
-Holds out text None None = ⊤
-Holds out text (Some old) None = ⊥
-Holds out text None (Some new) = ⊥
+Holds out text old new = WhereTold (λ before after. after ≡ insert before out text) old new
 
 -- where the blobs are told: no other blob than this has changed
 abbrev pub OnlyChanges : List ℕ → Option Blobs → Option Blobs → Type 0
-OnlyChanges out (Some old) (Some new) = SameBut out old new
-OnlyChanges out None None = ⊤
-OnlyChanges out (Some old) None = ⊥
-OnlyChanges out None (Some new) = ⊥
+OnlyChanges out old new = WhereTold (SameBut out) old new
 
 -- a refusal that a write to the name may have
 abbrev pub OfWrite : List ℕ → Refusal → Type 0

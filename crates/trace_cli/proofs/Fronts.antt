@@ -19,7 +19,7 @@ front_told (Some old) (Some new) bytes text (Ok done) same h = puts_whole old ne
 front_told (Some old) (Some new) bytes text (Err e) same h = subst (λ t. Puts old new t) same h
 front_told None None bytes text r same h = tt
 front_told (Some old) None bytes text r same h = h
-front_told None (Some new) bytes text r same h = tt
+front_told None (Some new) bytes text r same h = h
 
 -- ---- an answer
 
@@ -28,20 +28,21 @@ module _ (text : List ℕ) where
   answer_done (Some old) (Some new) done h = record { whole = λ _. h; fault = λ e. cc; memory = λ e. cc }
   answer_done None None done h = tt
   answer_done (Some old) None done h = h
-  answer_done None (Some new) done h = tt
+  answer_done None (Some new) done h = h
 
   pub answer_fault : (old new : Option (List ℕ)) (e : SinkError) → PutGives old new text (Err e) → TellsAnswer status.OutFault text old new
   answer_fault (Some old) (Some new) e h = record { whole = λ e. cc; fault = λ _. h; memory = λ e. cc }
   answer_fault None None e h = tt
   answer_fault (Some old) None e h = h
-  answer_fault None (Some new) e h = tt
+  answer_fault None (Some new) e h = h
 
   pub answer_memory : (old between new : Option (List ℕ)) (e : SinkError) → PutGives old between text (Err e) → TellsFront memory_line between new → TellsAnswer status.Memory text old new
   answer_memory (Some old) (Some between) (Some new) e h g =
       record { whole = λ e. cc; fault = λ e. cc; memory = λ _. record { between = between; first_put = h; second_put = g } }
-  answer_memory None None new e h g = tt
+  answer_memory None None None e h g = tt
+  answer_memory None None (Some new) e h g = g
   answer_memory (Some old) None new e h g = absurd h
-  answer_memory None (Some between) new e h g = tt
+  answer_memory None (Some between) new e h g = absurd h
   answer_memory (Some old) (Some between) None e h g = g
 
 -- ---- the error line of a refusal
@@ -53,7 +54,7 @@ module _ (e : Refusal) (rose : Type 0) where
       record { front = λ _. puts_whole old new (error_text e) all; whole = λ _ _. all; memory = λ _. inl (puts_whole old new (error_text e) all) }
   line_done None None line done same h = tt
   line_done (Some old) None line done same h = h
-  line_done None (Some new) line done same h = tt
+  line_done None (Some new) line done same h = h
 
   pub line_fault : (old new : Option (List ℕ)) (line : List ℕ) (f : SinkError) → line ≡ error_text e → rose → PutGives old new line (Err f) → TellsRefusal (refusal_status e) e rose old new
   line_fault (Some old) (Some new) line f same up h =
@@ -61,7 +62,7 @@ module _ (e : Refusal) (rose : Type 0) where
       record { front = λ _. front; whole = λ _ calm. absurd (calm up); memory = λ _. inl front }
   line_fault None None line f same up h = tt
   line_fault (Some old) None line f same up h = h
-  line_fault None (Some new) line f same up h = tt
+  line_fault None (Some new) line f same up h = h
 
   pub line_memory : (old new : Option (List ℕ)) (line : List ℕ) (f : SinkError) → line ≡ error_text e → PutGives old new line (Err f) → TellsRefusal status.Memory e rose old new
   line_memory (Some old) (Some new) line f same h =
@@ -69,10 +70,11 @@ module _ (e : Refusal) (rose : Type 0) where
       record { front = λ not. absurd (not refl); whole = λ not _. absurd (not refl); memory = λ _. inl front }
   line_memory None None line f same h = tt
   line_memory (Some old) None line f same h = h
-  line_memory None (Some new) line f same h = tt
+  line_memory None (Some new) line f same h = h
 
   -- no line could be made
   pub no_line : (old new : Option (List ℕ)) → TellsFront memory_line old new → TellsRefusal status.Memory e rose old new
   no_line (Some old) (Some new) h = record { front = λ not. absurd (not refl); whole = λ not _. absurd (not refl); memory = λ _. inr h }
-  no_line None new h = tt
+  no_line None None h = tt
+  no_line None (Some new) h = h
   no_line (Some old) None h = h

@@ -11,4 +11,4 @@ returns-in-Err-Fault-clause-out g c =
     let old = g.O.Sink.written c.args.out.now in
     let new = g.O.Sink.written c.put.new.self in
     subst (λ (s : Status). TellsRefusal s c.args.refusal.now rose old new) (sym c.refusal_status-in-Err-Fault.ensures)
-    (line_fault c.args.refusal.now rose old new c.as_slice.result.now _ (c.as_slice.ensures.value ∙ c.in-Ok.ensures) (c.in-Err-Fault.ensures.fault (cc (c.in-Err-Fault.field-0-is))) c.in-Err-Fault.ensures.bytes)
+    (line_fault c.args.refusal.now rose old new c.as_slice.result.now c.in-Err-Fault.field-0 (c.as_slice.ensures.value ∙ c.in-Ok.ensures) (c.in-Err-Fault.ensures.fault (cc (c.in-Err-Fault.field-0-is))) c.in-Err-Fault.ensures.bytes)
