@@ -1,8 +1,8 @@
 //! How far apart the codewords of a code are, and that a copy made by a coalition accuses members of it alone.
 #![tactic(auto)]
 
-mod promises;
+mod laws;
 
-pub use promises::{
+pub use laws::{
     coalitions_are_traced, codewords_are_far_apart, values_tell_polynomials, worked_examples,
 };

@@ -1,6 +1,6 @@
 use Rattle.std.proofs.Common.{arith}
 use Rattle.coalition_terms.proofs.Examples.{licensees_valid, colluders_enrolled, colluders_explain, one_in_common}
-use Rattle.coalition_terms.proofs.promises.worked_examples.Goals as goal
+use Rattle.coalition_terms.proofs.laws.worked_examples.Goals as goal
 
 pub returns-clause-valid : goal.returns-clause-valid
 returns-clause-valid c = licensees_valid

@@ -1,5 +1,5 @@
 use Rattle.algebra.proofs.Multiplicity.{value_sum, value_product}
-use Rattle.algebra.proofs.promises.laws_of_values.Goals as goal
+use Rattle.algebra.proofs.laws.laws_of_values.Goals as goal
 
 pub returns-clause-add : goal.returns-clause-add
 returns-clause-add g c = λ R. value_sum R

@@ -1,5 +1,5 @@
 use Rattle.algebra.proofs.Sums.{sum_plus, sum_scaled, sum_exchange}
-use Rattle.algebra.proofs.promises.laws_of_sums.Goals as goal
+use Rattle.algebra.proofs.laws.laws_of_sums.Goals as goal
 
 pub returns-clause-split : goal.returns-clause-split
 returns-clause-split g c = λ R. sum_plus R

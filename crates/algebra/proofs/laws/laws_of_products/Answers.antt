@@ -2,7 +2,7 @@ use Rattle.std.proofs.Common.{subst}
 use Rattle.std.proofs.Math.Numerals.{add-one}
 use Rattle.algebra.specs.Series.{IsBelow}
 use Rattle.algebra.proofs.Series.{product_comm, product_assoc, product_sum, product_below}
-use Rattle.algebra.proofs.promises.laws_of_products.Goals as goal
+use Rattle.algebra.proofs.laws.laws_of_products.Goals as goal
 
 pub returns-clause-commute : goal.returns-clause-commute
 returns-clause-commute g c = λ R. product_comm R

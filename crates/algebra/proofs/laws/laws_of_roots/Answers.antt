@@ -1,7 +1,7 @@
 use Rattle.algebra.proofs.Fields.{domain}
 use Rattle.algebra.proofs.Roots.{few_roots}
 use Rattle.algebra.proofs.Multiplicity.{few}
-use Rattle.algebra.proofs.promises.laws_of_roots.Goals as goal
+use Rattle.algebra.proofs.laws.laws_of_roots.Goals as goal
 
 pub returns-clause-few : goal.returns-clause-few
 returns-clause-few g c = λ R field. few R (domain R field)
