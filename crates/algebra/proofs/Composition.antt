@@ -5,7 +5,7 @@ use Rattle.algebra.specs.Ring.{Ring, IsField}
 use Rattle.algebra.specs.Series.{product, constant, linear, value, IsBelow, IsFrom}
 use Rattle.algebra.specs.Roots.{HasRoot}
 use Rattle.algebra.specs.Bivariate.{Bivariate, HasMultiplicity, IsWithin, greatest, x_power, y_power, substituted}
-use Rattle.algebra.proofs.Laws.{ring}
+use Rattle.algebra.proofs.RingLaws.{ring}
 use Rattle.algebra.proofs.Series.{product_comm, product_below, product_from_one, series}
 use Rattle.algebra.proofs.Nested.{nested, itself, nested_none, nested_next, nested_sum, nested_zero, nested_product, value_nested, value_more, below_more}
 use Rattle.algebra.proofs.Shift.{shifted, shifted_value, shifted_more, constants}

@@ -4,7 +4,7 @@ use Rattle.algebra.specs.Ring.{Ring}
 use Rattle.algebra.specs.Sums.{sum_below}
 use Rattle.algebra.specs.Series.{constant, linear_power, IsBelow}
 use Rattle.algebra.specs.Bivariate.{Bivariate, IsWithin, coefficient, weight, hasse_derivative}
-use Rattle.algebra.proofs.Laws.{ring, nil_times}
+use Rattle.algebra.proofs.RingLaws.{ring, nil_times}
 use Rattle.algebra.proofs.Sums.{sum_same, sum_zero, sum_scaled, sum_exchange}
 use Rattle.algebra.proofs.Series.{product_constant, series}
 use Rattle.algebra.proofs.Shift.{shifted, shifted_none, shifted_first, shifted_next}

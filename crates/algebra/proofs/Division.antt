@@ -3,7 +3,7 @@ use Rattle.std.proofs.Common.{◌≡◌, ℕ, zero, suc, refl, sym, ◌∙◌, a
 use mathlib.Core.Path.{fun_ext}
 use Rattle.algebra.specs.Ring.{Ring}
 use Rattle.algebra.specs.Series.{product, constant, linear, value, IsBelow}
-use Rattle.algebra.proofs.Laws.{ring}
+use Rattle.algebra.proofs.RingLaws.{ring}
 use Rattle.algebra.proofs.Series.{product_first, product_next, product_constant}
 use Rattle.algebra.proofs.Nested.{nested, itself, nested_next, nested_more, nested_zero, value_nested, below_tail}
 

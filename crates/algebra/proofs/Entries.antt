@@ -13,7 +13,7 @@ use Rattle.std.proofs.lemmas.Map.Lookups.{exact_pairs, exact_unsigned}
 use Rattle.algebra.specs.Ring.{Ring}
 use Rattle.algebra.specs.Sums.{sum_below}
 use Rattle.algebra.specs.Bivariate.{pair_cmp, Bivariate, greatest_of, greatest, x_power, y_power, IsWithin, coefficient, sum_of, sum_terms}
-use Rattle.algebra.proofs.Laws.{plus_nil}
+use Rattle.algebra.proofs.RingLaws.{plus_nil}
 use Rattle.algebra.proofs.Sums.{sum_same, sum_plus, sum_zero, sum_only}
 
 -- the keys of a polynomial are in order

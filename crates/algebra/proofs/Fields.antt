@@ -1,7 +1,7 @@
 -- A field has no divisors of zero.
 use Rattle.std.proofs.Common.{◌≡◌, sym, ◌∙◌, ap}
 use Rattle.algebra.specs.Ring.{Ring, IsField}
-use Rattle.algebra.proofs.Laws.{ring}
+use Rattle.algebra.proofs.RingLaws.{ring}
 use Rattle.algebra.proofs.Shift.{IsDomain}
 
 -- the inverse of x brings x ⊗ y back to y

@@ -8,7 +8,7 @@ use Rattle.algebra.specs.Sums.{sum_below, power}
 use Rattle.algebra.specs.Series.{value, IsBelow}
 use Rattle.algebra.specs.Binomials.{has_bits}
 use Rattle.algebra.specs.Bivariate.{weight}
-use Rattle.algebra.proofs.Laws.{ring, times_nil}
+use Rattle.algebra.proofs.RingLaws.{ring, times_nil}
 use Rattle.algebra.proofs.Sums.{sum_none, sum_next, sum_same}
 use Rattle.algebra.proofs.Nested.{nested, itself, nested_none, nested_next, nested_is_sum, value_nested}
 use Rattle.algebra.proofs.Weights.{bits_least}

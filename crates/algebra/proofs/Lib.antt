@@ -1,4 +1,4 @@
-pub mod Laws
+pub mod RingLaws
 pub mod Binomials
 pub mod Sums
 pub mod Entries

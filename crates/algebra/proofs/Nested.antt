@@ -3,7 +3,7 @@ use Rattle.std.proofs.Common.{◌≡◌, ℕ, zero, suc, ◌+◌, ◌≤◌, ref
 use Rattle.algebra.specs.Ring.{Ring}
 use Rattle.algebra.specs.Sums.{sum_below, power}
 use Rattle.algebra.specs.Series.{product, value, IsBelow}
-use Rattle.algebra.proofs.Laws.{ring}
+use Rattle.algebra.proofs.RingLaws.{ring}
 use Rattle.algebra.proofs.Sums.{sum_none, sum_next, sum_same, sum_scaled, power_none, power_next}
 use Rattle.algebra.proofs.Series.{product_first, product_next, product_zero}
 

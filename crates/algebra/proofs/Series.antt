@@ -3,7 +3,7 @@ use Rattle.std.proofs.Common.{◌≡◌, ℕ, zero, suc, ◌+◌, refl, sym, ◌
 use mathlib.Core.Path.{fun_ext}
 use Rattle.algebra.specs.Ring.{Ring}
 use Rattle.algebra.specs.Series.{product, constant, IsBelow, IsFrom}
-use Rattle.algebra.proofs.Laws.{ring}
+use Rattle.algebra.proofs.RingLaws.{ring}
 
 module _ {F : Type 0} (R : Ring F) where
   infixl 60 ◌⊕◌

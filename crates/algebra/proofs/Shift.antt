@@ -3,7 +3,7 @@ use Rattle.std.proofs.Common.{◌≡◌, ◌≢◌, ℕ, zero, suc, ◌+◌, ◌
 use mathlib.Core.Path.{fun_ext}
 use Rattle.algebra.specs.Ring.{Ring}
 use Rattle.algebra.specs.Series.{product, constant, linear, IsBelow, IsFrom}
-use Rattle.algebra.proofs.Laws.{ring}
+use Rattle.algebra.proofs.RingLaws.{ring}
 use Rattle.algebra.proofs.Series.{product_constant, series}
 use Rattle.algebra.proofs.Nested.{nested, IsHom, itself, nested_none, nested_next, nested_more, nested_product}
 use Rattle.algebra.proofs.Division.{linear_first, linear_next}

@@ -7,7 +7,7 @@ use Rattle.algebra.specs.Ring.{Ring}
 use Rattle.algebra.specs.Sums.{sum_below, power}
 use Rattle.algebra.specs.Series.{product, constant, linear, IsBelow}
 use Rattle.algebra.specs.Bivariate.{Bivariate, IsWithin, coefficient, weight, greatest, x_power, y_power, raised, substituted, shift_of}
-use Rattle.algebra.proofs.Laws.{ring, plus_nil}
+use Rattle.algebra.proofs.RingLaws.{ring, plus_nil}
 use Rattle.algebra.proofs.Sums.{sum_same, sum_nil, sum_zero, sum_only, power_none, power_next}
 use Rattle.algebra.proofs.Series.{product_constant, product_assoc, series}
 use Rattle.algebra.proofs.Nested.{nested, itself, nested_more, nested_is_sum}

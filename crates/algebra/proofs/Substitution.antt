@@ -6,7 +6,7 @@ use Rattle.algebra.specs.Ring.{Ring}
 use Rattle.algebra.specs.Sums.{sum_below, power}
 use Rattle.algebra.specs.Series.{product, IsBelow}
 use Rattle.algebra.specs.Bivariate.{Bivariate, IsWithin, coefficient, power_of, raised, substituted}
-use Rattle.algebra.proofs.Laws.{ring, times_nil}
+use Rattle.algebra.proofs.RingLaws.{ring, times_nil}
 use Rattle.algebra.proofs.Sums.{sum_none, sum_next, sum_same, sum_zero, sum_exchange, power_none, power_next}
 use Rattle.algebra.proofs.Series.{product_first, product_next, product_zero, series}
 use Rattle.algebra.proofs.Nested.{nested, itself, nested_is_sum, below_tail}

@@ -2,7 +2,7 @@
 use Rattle.std.proofs.Common.{◌≡◌, ◌≢◌, ℕ, zero, suc, ◌<◌, ◌≤◌, refl, sym, ◌∙◌, ap, ap₂, arith}
 use Rattle.algebra.specs.Ring.{Ring}
 use Rattle.algebra.specs.Sums.{sum_below, power}
-use Rattle.algebra.proofs.Laws.{ring, plus_nil}
+use Rattle.algebra.proofs.RingLaws.{ring, plus_nil}
 
 module _ {F : Type 0} (R : Ring F) where
   infixl 60 ◌⊕◌

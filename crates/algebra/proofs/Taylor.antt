@@ -4,7 +4,7 @@ use mathlib.Core.Path.{fun_ext}
 use Rattle.algebra.specs.Ring.{Ring}
 use Rattle.algebra.specs.Sums.{sum_below, power}
 use Rattle.algebra.specs.Series.{product, constant, linear, linear_power, IsBelow}
-use Rattle.algebra.proofs.Laws.{ring, plus_nil}
+use Rattle.algebra.proofs.RingLaws.{ring, plus_nil}
 use Rattle.algebra.proofs.Sums.{sum_none, sum_next, sum_same, power_none, power_next}
 use Rattle.algebra.proofs.Series.{product_constant, series}
 use Rattle.algebra.proofs.Nested.{nested, IsHom, nested_none, nested_next, nested_sum, nested_zero, nested_more, nested_product, nested_is_sum, below_tail}

@@ -7,7 +7,7 @@ use Rattle.algebra.specs.Ring.{Ring}
 use Rattle.algebra.specs.Sums.{sum_below, power}
 use Rattle.algebra.specs.Binomials.{has_bits}
 use Rattle.algebra.specs.Bivariate.{weight}
-use Rattle.algebra.proofs.Laws.{ring, times_nil}
+use Rattle.algebra.proofs.RingLaws.{ring, times_nil}
 use Rattle.algebra.proofs.Binomials.{differ, pascal, bits_none, zero_bits}
 use Rattle.algebra.proofs.Sums.{sum_none, sum_next, sum_same, sum_plus, sum_scaled, power_none, power_next}
 use Rattle.algebra.proofs.Shift.{shifted, shifted_none, shifted_first, shifted_next}

@@ -6,7 +6,7 @@ use Rattle.std.proofs.Math.Numerals.{add-one}
 use Rattle.algebra.specs.Ring.{Ring}
 use Rattle.algebra.specs.Lists.{coefficients, IsListOf}
 use Rattle.algebra.specs.Roots.{total}
-use Rattle.algebra.proofs.Laws.{ring}
+use Rattle.algebra.proofs.RingLaws.{ring}
 use Rattle.bi_poly.specs.Rows.{row_at, cell, HaveRoom, AreLimited}
 use Rattle.bi_poly.proofs.Cells.{cell_replaced, cell_beside}
 

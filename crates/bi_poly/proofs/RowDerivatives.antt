@@ -7,7 +7,7 @@ use Rattle.algebra.specs.Sums.{sum_below}
 use Rattle.algebra.specs.Series.{IsBelow}
 use Rattle.algebra.specs.Lists.{coefficients, IsListOf}
 use Rattle.algebra.specs.Bivariate.{Bivariate, IsWithin, coefficient, weight, hasse_derivative}
-use Rattle.algebra.proofs.Laws.{ring, nil_times}
+use Rattle.algebra.proofs.RingLaws.{ring, nil_times}
 use Rattle.algebra.proofs.Sums.{sum_same, sum_scaled, sum_exchange, sum_more}
 use Rattle.algebra.proofs.CoefficientLists.{coefficients_below, trimmed_length}
 use Rattle.algebra.proofs.Entries.{terms_sum}

@@ -8,7 +8,7 @@ use Rattle.std.proofs.Math.Nat.{mul-le-mul_left}
 use Rattle.algebra.specs.Ring.{Ring}
 use Rattle.algebra.specs.Sums.{sum_below}
 use Rattle.algebra.specs.Bivariate.{Bivariate, coefficient, greatest, weight, weight_by, x_power, y_power, shift_of}
-use Rattle.algebra.proofs.Laws.{ring, times_nil, nil_times}
+use Rattle.algebra.proofs.RingLaws.{ring, times_nil, nil_times}
 use Rattle.algebra.proofs.Sums.{sum_zero}
 use Rattle.algebra.proofs.Entries.{terms_sum, greatest_at, greatest_least, within}
 use Rattle.algebra.proofs.Horner.{weight_low}

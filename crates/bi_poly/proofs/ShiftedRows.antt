@@ -14,7 +14,7 @@ use Rattle.algebra.specs.Series.{constant}
 use Rattle.algebra.specs.Lists.{coefficients, IsListOf}
 use Rattle.algebra.specs.Binomials.{has_bits}
 use Rattle.algebra.specs.Bivariate.{Bivariate, greatest, y_power, weight, raised, shift_of}
-use Rattle.algebra.proofs.Laws.{times_nil, nil_times, times_unit, plus_nil}
+use Rattle.algebra.proofs.RingLaws.{times_nil, nil_times, times_unit, plus_nil}
 use Rattle.algebra.proofs.Sums.{sum_last, sum_same, sum_zero, sum_only, power_none}
 use Rattle.algebra.proofs.Series.{series}
 use Rattle.algebra.proofs.CoefficientLists.{trimmed_length}

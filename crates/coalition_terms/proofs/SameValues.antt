@@ -3,7 +3,7 @@ use Rattle.std.proofs.Common.{◌≡◌, ℕ, ◌<◌, ◌≤◌, sym, ◌∙◌
 use Rattle.algebra.specs.Ring.{Ring}
 use Rattle.algebra.specs.Series.{value, IsBelow}
 use Rattle.algebra.specs.Roots.{AreDifferent}
-use Rattle.algebra.proofs.Laws.{ring}
+use Rattle.algebra.proofs.RingLaws.{ring}
 use Rattle.algebra.proofs.Shift.{IsDomain}
 use Rattle.algebra.proofs.Multiplicity.{value_sum}
 use Rattle.algebra.proofs.Roots.{few_roots}

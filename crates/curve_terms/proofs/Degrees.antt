@@ -6,7 +6,7 @@ use Rattle.std.specs.FinMap.{get}
 use Rattle.algebra.specs.Ring.{Ring}
 use Rattle.algebra.specs.Series.{IsBelow, product, constant}
 use Rattle.algebra.specs.Bivariate.{Bivariate, greatest, power_of, raised, substituted, weight_by, x_power, y_power}
-use Rattle.algebra.proofs.Laws.{ring, times_nil, nil_times}
+use Rattle.algebra.proofs.RingLaws.{ring, times_nil, nil_times}
 use Rattle.algebra.proofs.Sums.{sum_zero}
 use Rattle.algebra.proofs.Series.{product_below}
 use Rattle.algebra.proofs.Substitution.{raised_high}

@@ -4,7 +4,7 @@ use Rattle.std.proofs.lemmas.Bool.{cases_lt}
 use Rattle.std.proofs.lemmas.Bool.Decides.{eqb_tells}
 use Rattle.algebra.specs.Ring.{Ring, IsField}
 use Rattle.system_terms.specs.Systems.{Solves, OnlyZeroSolves}
-use Rattle.algebra.proofs.Laws.{ring}
+use Rattle.algebra.proofs.RingLaws.{ring}
 use Rattle.system_terms.proofs.Elimination.{alone}
 use Rattle.linear_solve.specs.Tables.{entries}
 use Rattle.linear_solve.specs.Pivots.{ArePivots, HaveSameSolutions, rows_of, columns_of, inverses_of}

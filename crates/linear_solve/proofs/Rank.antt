@@ -5,7 +5,7 @@ use Rattle.std.proofs.lemmas.Bool.Decides.{eqb_tells}
 use Rattle.algebra.specs.Ring.{Ring, IsField}
 use Rattle.algebra.specs.Sums.{sum_below}
 use Rattle.system_terms.specs.Systems.{row_times, AreIndependent, IndependentRows, IsRank}
-use Rattle.algebra.proofs.Laws.{ring}
+use Rattle.algebra.proofs.RingLaws.{ring}
 use Rattle.algebra.proofs.Sums.{sum_same, sum_scaled, sum_exchange}
 use Rattle.system_terms.proofs.Elimination.{alone, row_zero}
 use Rattle.system_terms.proofs.Kernel.{kernel}

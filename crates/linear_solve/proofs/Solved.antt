@@ -6,7 +6,7 @@ use Rattle.algebra.specs.Ring.{Ring}
 use Rattle.algebra.specs.Sums.{sum_below}
 use Rattle.algebra.specs.Lists.{coefficients}
 use Rattle.system_terms.specs.Systems.{row_times}
-use Rattle.algebra.proofs.Laws.{ring}
+use Rattle.algebra.proofs.RingLaws.{ring}
 use Rattle.algebra.proofs.Sums.{sum_next, sum_same}
 use Rattle.system_terms.proofs.Elimination.{row_change}
 use Rattle.linear_solve.specs.Tables.{entries}

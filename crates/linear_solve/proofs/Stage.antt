@@ -7,7 +7,7 @@ use Rattle.std.proofs.lemmas.Simd.{length-zip2, get_or-zip2}
 use Rattle.algebra.specs.Ring.{Ring}
 use Rattle.algebra.specs.Lists.{coefficients}
 use Rattle.system_terms.specs.Systems.{row_times, IsZero}
-use Rattle.algebra.proofs.Laws.{ring}
+use Rattle.algebra.proofs.RingLaws.{ring}
 use Rattle.system_terms.proofs.Elimination.{row_zero, cleared_solved}
 use Rattle.linear_solve.specs.Tables.{entries, cleared, HaveLength}
 use Rattle.linear_solve.specs.Pivots.{ArePivots, HaveSameSolutions, rows_of, columns_of, inverses_of}

@@ -8,7 +8,7 @@ use Rattle.algebra.specs.Ring.{Ring, IsField}
 use Rattle.algebra.specs.Lists.{coefficients}
 use Rattle.algebra.specs.Sums.{sum_below}
 use Rattle.system_terms.specs.Systems.{IsZero, IsRank}
-use Rattle.algebra.proofs.Laws.{ring}
+use Rattle.algebra.proofs.RingLaws.{ring}
 use Rattle.algebra.proofs.Sums.{sum_none, sum_last, sum_same}
 use Rattle.linear_solve.specs.Tables.{entries, cleared, HaveLength}
 use Rattle.linear_solve.specs.Pivots.{ArePivots, rows_of, columns_of, inverses_of}

@@ -10,7 +10,7 @@ use Rattle.algebra.specs.Ring.{Ring}
 use Rattle.algebra.specs.Sums.{power}
 use Rattle.algebra.specs.Series.{product, constant, linear, value, IsBelow}
 use Rattle.algebra.specs.Bivariate.{Bivariate, coefficient, greatest, x_power, y_power, IsWithin, raised, substituted, shift_of}
-use Rattle.algebra.proofs.Laws.{ring}
+use Rattle.algebra.proofs.RingLaws.{ring}
 use Rattle.algebra.proofs.Series.{product_first, product_zero, series}
 use Rattle.algebra.proofs.Nested.{nested, itself, nested_none, nested_next, nested_scaled, value_nested}
 use Rattle.algebra.proofs.Division.{linear_first, linear_next}

@@ -3,7 +3,7 @@ use Rattle.std.proofs.Common.{◌≡◌, ◌≢◌, ℕ, zero, suc, ◌<◌, sym
 use Rattle.algebra.specs.Ring.{Ring, IsField}
 use Rattle.algebra.specs.Sums.{sum_below}
 use Rattle.system_terms.specs.Systems.{row_times, IsZero}
-use Rattle.algebra.proofs.Laws.{ring}
+use Rattle.algebra.proofs.RingLaws.{ring}
 use Rattle.algebra.proofs.Sums.{sum_next, sum_same, sum_nil, sum_plus, sum_scaled}
 
 module _ {F : Type 0} (R : Ring F) where

@@ -4,7 +4,7 @@ use Rattle.std.proofs.lemmas.Bool.Decides.{eqb_tells}
 use Rattle.algebra.specs.Ring.{Ring, IsField}
 use Rattle.algebra.specs.Sums.{sum_below}
 use Rattle.system_terms.specs.Systems.{row_times, Solves}
-use Rattle.algebra.proofs.Laws.{ring}
+use Rattle.algebra.proofs.RingLaws.{ring}
 use Rattle.algebra.proofs.Sums.{sum_next, sum_same, sum_nil}
 use Rattle.system_terms.proofs.Elimination.{row_sum}
 

@@ -2,7 +2,7 @@
 use Rattle.std.proofs.Common.{◌≡◌, ℕ, zero, suc, ◌<◌, ◌≤◌, sym, ◌∙◌, ap, arith}
 use Rattle.algebra.specs.Ring.{Ring, IsField}
 use Rattle.algebra.specs.Sums.{sum_below}
-use Rattle.algebra.proofs.Laws.{ring}
+use Rattle.algebra.proofs.RingLaws.{ring}
 use Rattle.algebra.proofs.Sums.{sum_none, sum_next, sum_zero}
 use Rattle.system_terms.specs.Systems.{AreIndependent, IndependentRows, IsRank}
 

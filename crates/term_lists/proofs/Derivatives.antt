@@ -10,7 +10,7 @@ use Rattle.algebra.specs.Sums.{sum_below}
 use Rattle.algebra.specs.Roots.{AreDifferent}
 use Rattle.algebra.specs.Lists.{coefficients}
 use Rattle.algebra.specs.Bivariate.{Bivariate, IsWithin, coefficient, greatest, hasse_derivative, pair_cmp, sum_terms, weight, x_power, y_power}
-use Rattle.algebra.proofs.Laws.{ring, plus_again}
+use Rattle.algebra.proofs.RingLaws.{ring, plus_again}
 use Rattle.algebra.proofs.Sums.{sum_last, sum_none, sum_only, sum_plus, sum_same, sum_zero}
 use Rattle.algebra.proofs.Entries.{pair_total, terms_sum, within}
 use Rattle.bi_poly.specs.Results.{kept, with_coefficient}

@@ -3,7 +3,7 @@ use Rattle.std.proofs.Common.{◌≡◌, ℕ, zero, suc, List, length, sym, ◌�
 use Rattle.algebra.specs.Ring.{Ring}
 use Rattle.algebra.specs.Series.{product, constant, linear}
 use Rattle.algebra.specs.Lists.{coefficients, IsListOf}
-use Rattle.algebra.proofs.Laws.{ring}
+use Rattle.algebra.proofs.RingLaws.{ring}
 use Rattle.algebra.proofs.Division.{linear_first, linear_next}
 use Rattle.algebra.proofs.CoefficientLists.{coefficients_below}
 use Rattle.algebra.proofs.Horner.{nested_from, nested_from-each}

@@ -10,7 +10,7 @@ use mathlib.Core.Path.{fun_ext}
 use Rattle.algebra.specs.Ring.{Ring}
 use Rattle.algebra.specs.Series.{product}
 use Rattle.algebra.specs.Lists.{coefficients}
-use Rattle.algebra.proofs.Laws.{ring}
+use Rattle.algebra.proofs.RingLaws.{ring}
 use Rattle.algebra.proofs.Series.{product_first, product_next, product_zero}
 use Rattle.algebra.proofs.CoefficientLists.{coefficients_below}
 
