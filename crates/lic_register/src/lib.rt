@@ -6,6 +6,7 @@
 
 mod enrolling;
 mod errors;
+mod finding;
 mod licensee;
 mod looking;
 mod reading;

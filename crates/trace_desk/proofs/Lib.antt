@@ -1,0 +1,4 @@
+pub mod Books
+pub mod Known
+pub mod Findings
+pub mod Costs
