@@ -63,7 +63,10 @@ module _ (roll : Roll) (kept : IsRoll roll) (word : List (Option ℕ)) (c : ℕ)
     only = All-map (λ serial. (0 ≤ serial) × (serial < length roll.entries) × (is_accused roll word c serial ≡ true)) serial_of sorted
         (All-permutation (λ one. (0 ≤ one.serial) × (one.serial < length roll.entries) × (is_accused roll word c one.serial ≡ true)) accused sorted shuffled (λ k d l.
         let said = known.only k d l in
-        (omega arith, said.0, (All-contains _ messages (message_at roll (get_or accused k d).serial) only said.1).1)));
+        let u : ℕ = message_at roll (get_or accused k d).serial in
+        let meets : (u < 2 ^ (roll.bits * roll.dimension)) × (meets_threshold roll.bits roll.dimension word c u ≡ true) =
+        All-contains (λ v. (v < 2 ^ (roll.bits * roll.dimension)) × (meets_threshold roll.bits roll.dimension word c v ≡ true)) messages u only said.1 in
+        (omega arith, said.0, meets.1)));
     every = λ serial low within meets.
         let small = kept.below serial no_entry within in
         Contains-permutation (map serial_of accused) (map serial_of sorted) serial (IsPermutation-map serial_of accused sorted shuffled)

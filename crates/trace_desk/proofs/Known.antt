@@ -1,7 +1,7 @@
 -- One message more is looked up.
-use Rattle.std.proofs.Common.{◌≡◌, ◌≢◌, ◌⊎◌, inl, inr, ℕ, ◌<◌, List, [], ◌∷◌, ◌++◌, length, map, get_or, All, AllPairs, Contains, Option, Some, refl, sym, ap, ◌∙◌, subst, arith}
+use Rattle.std.proofs.Common.{◌≡◌, ◌≢◌, ◌⊎◌, inl, inr, ℕ, ◌+◌, ◌<◌, List, [], ◌∷◌, ◌++◌, take, length, map, get_or, All, AllPairs, Contains, Option, Some, refl, sym, ap, ◌∙◌, subst, arith}
 use Rattle.std.specs.Prelude.{slice_get}
-use Rattle.std.proofs.lemmas.List.{map_push}
+use Rattle.std.proofs.lemmas.List.{map_push, length-take-le, get_or-take, take_more}
 use Rattle.std.proofs.lemmas.List.Elements.{All-push, Contains-append_left, Contains-push, Contains-push_cases}
 use Rattle.std.proofs.lemmas.List.Quantifiers.{all_pairs_push}
 use Rattle.std.proofs.lemmas.Option.{slice_get_within, get_or_from_slice_get}
@@ -70,3 +70,16 @@ module _ (roll : Roll) (word : List (Option ℕ)) (messages : List ℕ) (accused
       said =
           let by : Entry → Accused = λ (x : Entry). record { serial = serial; name = x.name; places = places_of roll.bits roll.dimension x.message word } in
           ap by (sym entry)
+
+-- a message does not stand among those before it
+pub not_before : (messages : List ℕ) (i u : ℕ) → AllPairs (λ x y. x ≢ y) messages → i < length messages → u ≡ get_or messages i u → Contains (take i messages) u → ⊥
+not_before messages i u apart within is (k, early, found) =
+    let before : k < i = omega (arith, length-take-le i messages (omega arith)) in
+    apart k i u before within (sym (get_or-take i messages k u before) ∙ found ∙ is)
+
+-- the step of the loop
+pub known_step : (roll : Roll) (word : List (Option ℕ)) (messages : List ℕ) (i u : ℕ) (accused : List Accused) → i < length messages → u ≡ get_or messages i u
+    → AreKnown roll word (take i messages ++ u ∷ []) accused → AreKnown roll word (take (i + 1) messages) accused
+known_step roll word messages i u accused within is known =
+    let next : take (i + 1) messages ≡ take i messages ++ u ∷ [] = take_more messages i u within ∙ ap (λ (v : ℕ). take i messages ++ v ∷ []) (sym is) in
+    subst (λ (us : List ℕ). AreKnown roll word us accused) (sym next) known
