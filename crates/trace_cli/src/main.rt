@@ -16,6 +16,7 @@ mod run_call;
 mod tests;
 
 use cli_words::Status;
+use gs_linear::Linear;
 use lists::Text;
 pub use run_call::run;
 use shelf_io::{FolderShelf, StdSink};
@@ -26,6 +27,9 @@ use std::process::ExitCode;
 use std::sync::ledger::Blank;
 use std::{env, io};
 use steps::{Ledger, Steps};
+
+/// How the program finds the curve of a trace.
+const CURVES: Linear = Linear;
 
 fn main(rt: HostRuntime) -> ExitCode {
     let words = words_of(rt.alloc(), env::args(&rt));
@@ -100,5 +104,7 @@ fn counted<P: Ledger, Q: Ledger>(
     let mut shelf = FolderShelf::new(rt, folder);
     let mut prods = Steps::<P>::new(prods);
     let mut looks = Steps::<Q>::new(looks);
-    run(alloc, words, &mut shelf, &mut out, &mut prods, &mut looks)
+    run(
+        alloc, words, &mut shelf, &mut out, &CURVES, &mut prods, &mut looks,
+    )
 }
