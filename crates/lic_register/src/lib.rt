@@ -20,4 +20,6 @@ pub use register::Register;
 pub use register_terms::{RegisterFault, RegisterKind};
 
 #[cfg(test)]
+mod finding_tests;
+#[cfg(test)]
 mod tests;

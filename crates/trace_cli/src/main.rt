@@ -10,13 +10,15 @@ ghost use Rattle.std.specs.Vec.Iter.{into_iter_items};
 ghost use Rattle.std.specs.IoError.{error_kind};
 ghost use Rattle.trace_cli.specs.CommandLine.{AnswersWords, argument_status};
 
+mod costs;
 mod ending;
 mod run_call;
 #[cfg(test)]
 mod tests;
 
 use cli_words::Status;
-use gs_linear::Linear;
+use costs::CURVES;
+pub use costs::curves_cost;
 use lists::Text;
 pub use run_call::run;
 use shelf_io::{FolderShelf, StdSink};
@@ -27,9 +29,6 @@ use std::process::ExitCode;
 use std::sync::ledger::Blank;
 use std::{env, io};
 use steps::{Ledger, Steps};
-
-/// How the program finds the curve of a trace.
-const CURVES: Linear = Linear;
 
 fn main(rt: HostRuntime) -> ExitCode {
     let words = words_of(rt.alloc(), env::args(&rt));

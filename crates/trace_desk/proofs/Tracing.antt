@@ -48,9 +48,10 @@ decoded_meet : (m k : ℕ) (word : List (Option ℕ)) (c : ℕ) → All (λ u. (
 unfolding decoded
 decoded_meet m k word c i d l =
     let n : ℕ = 2 ^ (m * k) in
-    let long : length (range_with_len 0 n) ≡ n = length-range_with_len 0 n in
-    (All-filter (meets_threshold m k word c) (λ u. u < n) (range_with_len 0 n) (λ j e inside. omega (arith, get_or-range_with_len 0 n j e (omega arith))) i d l,
-      filter_passes (meets_threshold m k word c) (range_with_len 0 n) i d l)
+    let long : length (range_with_len 0 n) ≡ n = length-range_with_len 0 n in (
+      All-filter (meets_threshold m k word c) (λ u. u < n) (range_with_len 0 n) (λ j e inside. omega (arith, get_or-range_with_len 0 n j e (omega arith))) i d l,
+      filter_passes (meets_threshold m k word c) (range_with_len 0 n) i d l,
+    )
 
 decoded_every : (m k : ℕ) (word : List (Option ℕ)) (c u : ℕ) → u < 2 ^ (m * k) → meets_threshold m k word c u ≡ true → Contains (decoded m k word c) u
 unfolding decoded

@@ -44,15 +44,7 @@ pub fn accuse<F: Field, B: Book, I: Interpolate, P: Ledger, Q: Ledger>(
 {
     let _bits = book.bits();
     let messages = decode(alloc, code, word, c, by, prods)?;
-    let mut accused = known(
-        alloc,
-        book,
-        code,
-        word,
-        messages.as_slice(),
-        prods,
-        looks,
-    )?;
+    let mut accused = known(alloc, book, code, word, messages.as_slice(), prods, looks)?;
     sort_by_serial(&mut accused)?;
     Ok(Findings {
         readable: word.readable(),

@@ -8,6 +8,6 @@ mod desk;
 mod desk_error;
 
 pub use book::Book;
-pub use costs::{iterative_curves_cost_less, iterative_curves_cost, linear_curves_cost};
+pub use costs::{iterative_curves_cost, iterative_curves_cost_less, linear_curves_cost};
 pub use desk::accuse;
 pub use desk_error::DeskError;

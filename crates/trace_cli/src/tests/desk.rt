@@ -16,6 +16,7 @@ use rs_code::{Code, Message, Word};
 use shelf_io::MemSink;
 use std::alloc::Global;
 use std::marker::Brand;
+use std::process::Abort;
 use std::sync::ledger::Blank;
 use std::test::Fail;
 use steps::{Ledger, Steps};
@@ -180,17 +181,13 @@ fn decoded<P: Ledger>(
     alloc: Global,
     last: Option<u8>,
     c: u32,
-    prods: Blank,
+    prods: &mut Steps<P>,
 ) -> Result<String, Memory>
-    requires prods_name { prods.name ≡ P.name }
-    requires prods_parts { prods.parts ≡ P.parts }
-    requires prods_some { 0 < P.parts }
-    requires symbol { IfSome last (λ v. v < 16) }
+    requires { IfSome last (λ v. v < 16) }
 {
-    let mut prods = Steps::<P>::new(prods);
     let word = word_ending(alloc, last)?;
     let code = Code::<Gf<4>>::new(10, 2).unwrap();
-    match decode(alloc, &code, &word, c, &Linear, &mut prods) {
+    match decode(alloc, &code, &word, c, &Linear, prods) {
         Ok(messages) => numbers(alloc, messages.as_slice()),
         Err(DecodeError::BadBound) => Ok(String::from_str(alloc, "bad bound")?),
         Err(DecodeError::TooFew(readable)) => Ok(format!(in alloc; "too few: {readable}")?),
@@ -227,16 +224,24 @@ fn numbers(alloc: Global, messages: &[Message]) -> Result<String, Memory> {
     Ok(text)
 }
 
-#[test]
-fn messages_are_decoded(rt: HostRuntime) -> Result<(), Fail> {
-    let alloc = rt.alloc();
-    let three = decoded::<Brand>(alloc, Some(1), 3, Blank::new(1))?;
+fn decodes<P: Ledger>(rt: &impl Abort, alloc: Global, prods: Blank) -> Result<(), Fail>
+    requires name { prods.name ≡ P.name }
+    requires parts { prods.parts ≡ P.parts }
+    requires some { 0 < P.parts }
+{
+    let mut prods = Steps::<P>::new(prods);
+    let three = decoded(alloc, Some(1), 3, &mut prods)?;
     assert_eq!(rt; three.as_str(), "0;1;16;");
-    let too_few = decoded::<Brand>(alloc, None, 3, Blank::new(1))?;
+    let too_few = decoded(alloc, None, 3, &mut prods)?;
     assert_eq!(rt; too_few.as_str(), "too few: 9");
-    let none = decoded::<Brand>(alloc, None, 2, Blank::new(1))?;
+    let none = decoded(alloc, None, 2, &mut prods)?;
     assert_eq!(rt; none.as_str(), "");
-    let bad_bound = decoded::<Brand>(alloc, None, 9, Blank::new(1))?;
+    let bad_bound = decoded(alloc, None, 9, &mut prods)?;
     assert_eq!(rt; bad_bound.as_str(), "bad bound");
     Ok(())
+}
+
+#[test]
+fn messages_are_decoded(rt: HostRuntime) -> Result<(), Fail> {
+    decodes::<Brand>(&rt, rt.alloc(), Blank::new(1))
 }
