@@ -15,7 +15,7 @@ use Rattle.std.proofs.lemmas.List.FromFn.{length-range_with_len, get_or-range_wi
 use Rattle.code_terms.specs.Symbols.{symbol_of}
 use Rattle.code_terms.specs.Words.{readable, slot_at, holds_symbol, agrees, places_of, agreement_of}
 use Rattle.desk_terms.specs.declared.findings.Accused.{Accused}
-use Rattle.decoder_terms.specs.Decoding.{least_readable}
+use Rattle.decoder_terms.specs.Decoding.{not_enough}
 use Rattle.desk_terms.specs.Findings.{findings, is_accused, accusation, serials}
 use Rattle.desk_terms.specs.Roll.{Roll, IsRoll, no_entry, message_at}
 use Rattle.coalition_terms.specs.Distance.{have_same_symbol, common_places}
@@ -110,7 +110,7 @@ module _ (roll : Roll) (word : List (Option ℕ)) (c : ℕ) (members : List ℕ)
       ap (λ f. sum_by f members) (fun_ext (λ i. sym (length-filter (shares i j) places))) in
       omega (arith, agreement-count roll.bits roll.dimension (message_at roll j) word, few, same)
 
-  module _ (kept : IsRoll roll) (low : 4 ≤ roll.bits) (high : roll.bits ≤ 8) (short : length word ≤ 2 ^ roll.bits) (some : 1 ≤ c) (enough : least_readable roll.dimension c < readable word)
+  module _ (kept : IsRoll roll) (low : 4 ≤ roll.bits) (high : roll.bits ≤ 8) (short : length word ≤ 2 ^ roll.bits) (some : 1 ≤ c) (enough : not_enough roll.dimension c < readable word)
       (coalition : IsCoalition roll c members) (explains : Explains roll members word) where
     -- a licensee who is no member has fewer symbols than the dimension in common with a member
     common-few : (i j : ℕ) → i < length roll.entries → j < length roll.entries → i ≢ j → length (common_places roll.bits roll.dimension (message_at roll i) (message_at roll j) (length word)) ≤ roll.dimension - 1
@@ -178,7 +178,7 @@ module _ (roll : Roll) (word : List (Option ℕ)) (c : ℕ) (members : List ℕ)
 
 -- the desk accuses members of a coalition that made the word, and at least one of them
 pub traced : (roll : Roll) (word : List (Option ℕ)) (c : ℕ) (members : List ℕ) → IsRoll roll → 4 ≤ roll.bits → roll.bits ≤ 8 → length word ≤ 2 ^ roll.bits → 1 ≤ c
-    → least_readable roll.dimension c < readable word → IsCoalition roll c members → Explains roll members word → IsTraced roll word c members
+    → not_enough roll.dimension c < readable word → IsCoalition roll c members → Explains roll members word → IsTraced roll word c members
 unfolding findings
 traced roll word c members kept low high short some enough coalition explains = record {
   members = All-map (λ (a : Accused). Contains members a.serial) (accusation roll word) (filter (is_accused roll word c) (serials roll))

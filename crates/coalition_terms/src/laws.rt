@@ -7,7 +7,7 @@ ghost use Rattle.algebra.specs.Series.{IsBelow, value};
 ghost use Rattle.coalition_terms.specs.Coalition.{Explains, IsCoalition, IsTraced};
 ghost use Rattle.coalition_terms.specs.Distance.{common_places};
 ghost use Rattle.code_terms.specs.Words.{readable, three_colluders};
-ghost use Rattle.decoder_terms.specs.Decoding.{least_readable};
+ghost use Rattle.decoder_terms.specs.Decoding.{not_enough};
 ghost use Rattle.desk_terms.specs.Examples.{first_licensees};
 ghost use Rattle.desk_terms.specs.Roll.{IsRoll, Roll, roll_of};
 
@@ -19,7 +19,7 @@ pub fn codewords_are_far_apart()
 /// Where a coalition of at most c licensees made the word, and more than c² (k - 1) places of it can be read, the desk accuses
 /// members of the coalition alone, and at least one of them.
 pub fn coalitions_are_traced()
-    ensures { (roll : Roll) (word : List (Option ℕ)) (c : ℕ) (members : List ℕ) → IsRoll roll → 4 ≤ roll.bits → roll.bits ≤ 8 → length word ≤ 2 ^ roll.bits → 1 ≤ c → least_readable roll.dimension c < readable word → IsCoalition roll c members → Explains roll members word → IsTraced roll word c members }
+    ensures { (roll : Roll) (word : List (Option ℕ)) (c : ℕ) (members : List ℕ) → IsRoll roll → 4 ≤ roll.bits → roll.bits ≤ 8 → length word ≤ 2 ^ roll.bits → 1 ≤ c → not_enough roll.dimension c < readable word → IsCoalition roll c members → Explains roll members word → IsTraced roll word c members }
 {}
 
 /// Two polynomials with n coefficients each that have the same values at n different points of a field are the same.
@@ -33,6 +33,6 @@ pub fn worked_examples()
     ensures kept { IsRoll (roll_of (first_licensees 20)) }
     ensures coalition { IsCoalition (roll_of (first_licensees 20)) 3 (0 ∷ 1 ∷ 16 ∷ []) }
     ensures explained { Explains (roll_of (first_licensees 20)) (0 ∷ 1 ∷ 16 ∷ []) three_colluders }
-    ensures enough { least_readable 2 3 < readable three_colluders }
+    ensures enough { not_enough 2 3 < readable three_colluders }
     ensures in_common { common_places 4 2 0 16 16 ≡ 0 ∷ [] }
 {}

@@ -13,5 +13,5 @@ unfoldable pub decoded : (m k : ℕ) → List (Option ℕ) → ℕ → List ℕ
 decoded m k word c = filter (meets_threshold m k word c) (range_with_len 0 (2 ^ (m * k)))
 
 -- too few places are readable for coalitions of c where they are not more than this
-abbrev pub least_readable : (k c : ℕ) → ℕ
-least_readable k c = c * c * (k - 1)
+abbrev pub not_enough : (k c : ℕ) → ℕ
+not_enough k c = c * c * (k - 1)

@@ -4,7 +4,7 @@ ghost use Rattle.std.specs.Prelude.{◌≡◌, ℕ, ◌*◌, ◌^◌, ◌<◌, L
 ghost use Rattle.std.specs.List.Sorted.{IsStrictlyIncreasing};
 ghost use Rattle.code_terms.specs.Words.{agreement_of, three_colluders};
 ghost use Rattle.decoder_terms.specs.Bounds.{decoding_bound, root_bound};
-ghost use Rattle.decoder_terms.specs.Decoding.{decoded, least_readable, meets_threshold};
+ghost use Rattle.decoder_terms.specs.Decoding.{decoded, not_enough, meets_threshold};
 
 /// A list that ascends and has the messages that meet the threshold, all of them and nothing else, is what decoding finds.
 pub fn decoded_is_told()
@@ -19,7 +19,7 @@ pub fn decoded_is_told()
 pub fn worked_examples()
     ensures three { decoded 4 2 three_colluders 3 ≡ 0 ∷ 1 ∷ 16 ∷ [] }
     ensures one { decoded 4 2 (Some 5 ∷ Some 5 ∷ []) 1 ≡ 5 ∷ [] }
-    ensures needed { least_readable 2 3 ≡ 9 }
+    ensures needed { not_enough 2 3 ≡ 9 }
     ensures roots { root_bound 10 2 3 ≡ 143650 }
     ensures products { decoding_bound 0 10 2 3 ≡ 143910 }
 {}

@@ -3,7 +3,7 @@
 ghost use Rattle.std.specs.Prelude.{◌≡◌, [], ◌∷◌, map, replicate, None, Some, codes, true, false};
 ghost use Rattle.code_terms.specs.Words.{readable, three_colluders};
 ghost use Rattle.decoding_terms.specs.Parameters.{is_allowed_bound};
-ghost use Rattle.decoder_terms.specs.Decoding.{least_readable};
+ghost use Rattle.decoder_terms.specs.Decoding.{not_enough};
 ghost use Rattle.register_terms.specs.Enrolment.{Enrolment, IsValid};
 ghost use Rattle.desk_terms.specs.Bounds.{iterative_product_bound, look_bound, product_bound};
 ghost use Rattle.desk_terms.specs.Findings.{findings};
@@ -18,7 +18,7 @@ ghost use Rattle.desk_terms.specs.Examples.{first_licensees, one_place_lost, thr
 pub fn worked_examples()
     ensures three_colluders { report_text (findings (roll_of (first_licensees 20)) three_colluders 3) ≡ codes "{\"accused\":[{\"name\":\"lic0\",\"places\":[0,4,5,6],\"serial\":0},{\"name\":\"lic1\",\"places\":[1,7,8,9],\"serial\":1},{\"name\":\"lic16\",\"places\":[0,1,2,3],\"serial\":16}],\"bound\":3,\"readable\":10}\n" }
     ensures too_few { readable one_place_lost ≡ 9 }
-    ensures needed { least_readable 2 3 ≡ 9 }
+    ensures needed { not_enough 2 3 ≡ 9 }
     ensures nobody { report_text (findings (roll_of (first_licensees 20)) one_place_lost 2) ≡ codes "{\"accused\":[],\"bound\":2,\"readable\":9}\n" }
     ensures met_exactly { report_text (findings (roll_of (first_licensees 20)) (Some 5 ∷ Some 5 ∷ []) 1) ≡ codes "{\"accused\":[{\"name\":\"lic5\",\"places\":[0,1],\"serial\":5}],\"bound\":1,\"readable\":2}\n" }
     ensures not_enrolled { report_text (findings (roll_of (first_licensees 5)) (Some 5 ∷ Some 5 ∷ []) 1) ≡ codes "{\"accused\":[],\"bound\":1,\"readable\":2}\n" }

@@ -3,7 +3,7 @@ use Rattle.std.proofs.Common.{◌≡◌, ℕ, ◌-◌, ◌*◌, ◌<◌, ◌≤�
 use Rattle.std.proofs.lemmas.Bool.Decides.{nat_tests}
 use Rattle.code_terms.specs.Words.{readable}
 use Rattle.decoding_terms.specs.Parameters.{AreEnough, is_allowed_bound}
-use Rattle.decoder_terms.specs.Decoding.{decoded, least_readable}
+use Rattle.decoder_terms.specs.Decoding.{decoded, not_enough}
 use Rattle.gs_params.specs.declared.parameters.ParamError.{ParamError}
 use Rattle.gs_params.specs.declared.parameters.ParamError.TheVariants as chosen
 use Rattle.gs_params.specs.Refusals.{refusal_of}
@@ -28,7 +28,7 @@ module _ (m k c : ℕ) (word : List (Option ℕ)) where
   refused why h =
       elim (is_allowed_bound k c) as (λ (a : Bool).
       Some why ≡ (if a then (if nat_lt (c * c * (k - 1)) (readable word) then None else Some (chosen.TooFew (readable word))) else Some chosen.BadBound)
-      → (if a then (if nat_lt (least_readable k c) (readable word) then Ok (decoded m k word c) else Err (refused_as (chosen.TooFew (readable word)))) else Err (refused_as chosen.BadBound)) ≡ Err (refused_as why)) [
+      → (if a then (if nat_lt (not_enough k c) (readable word) then Ok (decoded m k word c) else Err (refused_as (chosen.TooFew (readable word)))) else Err (refused_as chosen.BadBound)) ≡ Err (refused_as why)) [
         | true ↦
             elim (nat_lt (c * c * (k - 1)) (readable word)) as (λ (b : Bool). Some why ≡ (if b then None else Some (chosen.TooFew (readable word)))
             → (if b then Ok (decoded m k word c) else Err (refused_as (chosen.TooFew (readable word)))) ≡ Err (refused_as why)) [
@@ -64,7 +64,7 @@ module _ (m k c : ℕ) (word : List (Option ℕ)) where
   pub answered : None ≡ refusal_of k c (readable word) → decoding m k word c ≡ Ok (decoded m k word c)
   answered h =
       let both = granted h in
-      ap (λ (a : Bool). if a then (if nat_lt (least_readable k c) (readable word) then Ok (decoded m k word c) else Err (refused_as (chosen.TooFew (readable word)))) else Err (refused_as chosen.BadBound)) both.0
+      ap (λ (a : Bool). if a then (if nat_lt (not_enough k c) (readable word) then Ok (decoded m k word c) else Err (refused_as (chosen.TooFew (readable word)))) else Err (refused_as chosen.BadBound)) both.0
       ∙ ap (λ (b : Bool). if b then Ok (decoded m k word c) else Err (refused_as (chosen.TooFew (readable word)))) both.1
 
   pub some_readable : None ≡ refusal_of k c (readable word) → 1 ≤ readable word

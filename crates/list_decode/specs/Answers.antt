@@ -3,7 +3,7 @@
 use Rattle.std.specs.Prelude.{◌≡◌, ℕ, ◌-◌, ◌≤◌, nat_lt, if◌then◌else◌, List, Option, Result, Ok, Err}
 use Rattle.code_terms.specs.Words.{readable}
 use Rattle.decoding_terms.specs.Parameters.{AreEnough, AreParameters, is_allowed_bound}
-use Rattle.decoder_terms.specs.Decoding.{decoded, least_readable}
+use Rattle.decoder_terms.specs.Decoding.{decoded, not_enough}
 use Rattle.gs_params.specs.declared.parameters.Params.{Params}
 use Rattle.list_decode.specs.declared.decode_error.DecodeError.{DecodeError}
 use Rattle.list_decode.specs.declared.decode_error.DecodeError.TheVariants.{BadBound, TooFew, Memory}
@@ -11,7 +11,7 @@ use Rattle.list_decode.specs.declared.decode_error.DecodeError.TheVariants.{BadB
 -- the messages that meet the threshold; refused are first a bound that codes of this dimension don't allow, and then too few readable places
 abbrev pub decoding : (m k : ℕ) → List (Option ℕ) → ℕ → Result (List ℕ) DecodeError
 decoding m k word c =
-    if is_allowed_bound k c then (if nat_lt (least_readable k c) (readable word) then Ok (decoded m k word c) else Err (TooFew (readable word))) else Err BadBound
+    if is_allowed_bound k c then (if nat_lt (not_enough k c) (readable word) then Ok (decoded m k word c) else Err (TooFew (readable word))) else Err BadBound
 
 -- what is wanted is answered; only want of memory may come in place of it
 abbrev pub DecodesAs : Result (List ℕ) DecodeError → Result (List ℕ) DecodeError → Type 0

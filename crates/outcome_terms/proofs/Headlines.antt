@@ -18,7 +18,7 @@ use Rattle.register_terms.proofs.Serials.{bytes_eq-own}
 use Rattle.register_terms.proofs.Growing.{is_welcome}
 use Rattle.register_terms.proofs.HeaderLines.{rule_of}
 use Rattle.decoding_terms.specs.Parameters.{is_allowed_bound}
-use Rattle.decoder_terms.specs.Decoding.{least_readable}
+use Rattle.decoder_terms.specs.Decoding.{not_enough}
 use Rattle.desk_terms.specs.Findings.{findings}
 use Rattle.desk_terms.specs.Roll.{roll_of}
 use Rattle.desk_terms.specs.Report.{report_text}
@@ -146,13 +146,13 @@ was_allowed blobs k c bound h =
     record { allowed = so.so; same = was_given blobs c bound so.then }
 
 record Reported (e : Enrolment) (word : List (Option ℕ)) (c : ℕ) (text : List ℕ) : Type 0 where
-  enough : least_readable e.dimension c < readable word
+  enough : not_enough e.dimension c < readable word
   is : report_text (findings (roll_of e) word c) ≡ text
 
 reported : (blobs : Blobs) (e : Enrolment) (word : List (Option ℕ)) (c : ℕ) (text : List ℕ) → given blobs (report e word c) ≡ Ok text → Reported e word c text
 unfolding report
 reported blobs e word c text h =
-    let m = met blobs (nat_lt (least_readable e.dimension c) (readable word)) (TooFew (readable word) (least_readable e.dimension c)) _ text h in
+    let m = met blobs (nat_lt (not_enough e.dimension c) (readable word)) (TooFew (readable word) (not_enough e.dimension c)) _ text h in
     record { enough = (let so = m.so in grind (arith, nat_tests)); is = was_given blobs (report_text (findings (roll_of e) word c)) text m.then }
 
 pub accuse_report : (blobs : Blobs) (register word : List ℕ) (c : ℕ) (text : List ℕ) → given blobs (accuse register word c) ≡ Ok text → IsReport blobs register word c text

@@ -5,7 +5,7 @@ use Rattle.code_terms.specs.Words.{readable}
 use Rattle.code_terms.specs.WordText.{word_of}
 use Rattle.register_terms.specs.Enrolment.{Enrolment}
 use Rattle.decoding_terms.specs.Parameters.{is_allowed_bound}
-use Rattle.decoder_terms.specs.Decoding.{least_readable}
+use Rattle.decoder_terms.specs.Decoding.{not_enough}
 use Rattle.desk_terms.specs.Findings.{findings}
 use Rattle.desk_terms.specs.Roll.{roll_of}
 use Rattle.desk_terms.specs.Report.{report_text}
@@ -36,7 +36,7 @@ word_under name m = do
 -- the report of a word against a register
 unfoldable pub report : Enrolment → List (Option ℕ) → ℕ → Reading (List ℕ)
 report e word c = do
-  require (nat_lt (least_readable e.dimension c) (readable word)) (TooFew (readable word) (least_readable e.dimension c))
+  require (nat_lt (not_enough e.dimension c) (readable word)) (TooFew (readable word) (not_enough e.dimension c))
   Give (report_text (findings (roll_of e) word c))
 
 -- the report of the word's findings

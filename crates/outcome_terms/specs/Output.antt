@@ -25,29 +25,29 @@ PutFailed old new = Rose old.faults new.faults
 abbrev pub memory_line : List ℕ
 memory_line = line_of status.Memory (codes "memory")
 
--- a front of one text, and behind it a front of another
+-- a prefix of one text, and behind it a prefix of another
 pub record PutsBoth (old new first second : List ℕ) : Type 0 where
   pub between : List ℕ
   pub first_put : Puts old between first
   pub second_put : Puts between new second
 
--- A text was to be put out. With the status Ok all of it stands there, after a fault of the output a front of it, and for want
--- of memory a front of it and then the line for want of memory.
+-- A text was to be put out. With the status Ok all of it stands there, after a fault of the output a prefix of it, and for want
+-- of memory a prefix of it and then the line for want of memory.
 pub record PutsAnswer (s : Status) (text old new : List ℕ) : Type 0 where
   pub whole : s ≡ status.Ok → new ≡ old ++ text
   pub fault : s ≡ status.OutFault → Puts old new text
   pub memory : s ≡ status.Memory → PutsBoth old new text memory_line
 
--- A refusal was to be put out as its error line. With the refusal's status a front of the line stands there, and all of it where
--- no fault of the output was counted; for want of memory a front of this line or of the line for want of memory.
+-- A refusal was to be put out as its error line. With the refusal's status a prefix of the line stands there, and all of it where
+-- no fault of the output was counted; for want of memory a prefix of this line or of the line for want of memory.
 pub record PutsRefusal (s : Status) (e : Refusal) (rose : Type 0) (old new : List ℕ) : Type 0 where
-  pub front : s ≢ status.Memory → Puts old new (error_text e)
+  pub prefix : s ≢ status.Memory → Puts old new (error_text e)
   pub whole : s ≢ status.Memory → (rose → ⊥) → new ≡ old ++ error_text e
   pub memory : s ≡ status.Memory → Puts old new (error_text e) ⊎ Puts old new memory_line
 
--- a front of a text was put, where the output is told
-abbrev pub TellsFront : List ℕ → Option (List ℕ) → Option (List ℕ) → Type 0
-TellsFront text old new = WhereTold (λ before after. Puts before after text) old new
+-- a prefix of a text was put, where the output is told
+abbrev pub TellsPrefix : List ℕ → Option (List ℕ) → Option (List ℕ) → Type 0
+TellsPrefix text old new = WhereTold (λ before after. Puts before after text) old new
 
 -- the same of an answer's text, and of a refusal's line
 abbrev pub TellsAnswer : Status → List ℕ → Option (List ℕ) → Option (List ℕ) → Type 0

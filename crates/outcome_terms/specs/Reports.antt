@@ -9,7 +9,7 @@ use Rattle.register_terms.specs.Enrolment.{Enrolment, names_of, capacity, serial
 use Rattle.register_terms.specs.Rules.{empty_register, with_name, with_withdrawn, is_active, are_bits, is_dimension, is_multiplier, is_shift}
 use Rattle.register_terms.specs.RegisterText.{register_of, register_text}
 use Rattle.decoding_terms.specs.Parameters.{is_allowed_bound}
-use Rattle.decoder_terms.specs.Decoding.{least_readable}
+use Rattle.decoder_terms.specs.Decoding.{not_enough}
 use Rattle.desk_terms.specs.Findings.{findings}
 use Rattle.desk_terms.specs.Roll.{roll_of}
 use Rattle.desk_terms.specs.Report.{report_text}
@@ -62,7 +62,7 @@ pub record IsReport (blobs : Blobs) (register_name word_name : List ℕ) (c : �
   pub holds_register : HoldsRegister blobs register_name register
   pub bound_allowed : is_allowed_bound register.dimension c ≡ true
   pub holds_word : HoldsWord blobs word_name register.bits word
-  pub enough : least_readable register.dimension c < readable word
+  pub enough : not_enough register.dimension c < readable word
   pub report : text ≡ report_text (findings (roll_of register) word c)
 
 pub record PutsReport (blobs : Blobs) (register_name word_name : List ℕ) (c : ℕ) (before after : List ℕ) : Type 0 where

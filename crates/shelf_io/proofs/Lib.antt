@@ -1,4 +1,4 @@
-pub mod Fronts
+pub mod Prefixes
 pub mod BlobLists
 pub mod KnownBytes
 pub mod Poured

@@ -1,43 +1,43 @@
--- A blob that is poured from its front on.
+-- A blob that is poured from its prefix on.
 use Rattle.std.proofs.Common.{◌≡◌, ◌∙◌, sym, ap, subst, ℕ, ◌+◌, ◌≤◌, List, [], ◌++◌, length, length-append, take, append_assoc, append-nil, Option, Some, None, IfSome, refl, arith}
 use Rattle.std.proofs.lemmas.List.{take_all}
 use Rattle.std.specs.Option.{unwrap_or}
 use Rattle.shelf_terms.specs.Blobs.{Blobs, blob_at, part_of}
 use Rattle.shelf_io.specs.Reads.{HasPart}
-use Rattle.shelf_io.specs.Pours.{IsFrontOf, Adds, HasPoured, HasPouredWhole}
-use Rattle.shelf_io.proofs.Fronts.{front_grows, length_part}
+use Rattle.shelf_io.specs.Pours.{IsPrefixOf, Adds, HasPoured, HasPouredWhole}
+use Rattle.shelf_io.proofs.Prefixes.{front_grows, length_part}
 
 -- so many bytes came so far
 pub record IsPouring (old new : List ℕ → Type 0) (told : Option Blobs) (name : List ℕ) (count : ℕ) : Type 0 where
-  pub front : List ℕ
-  pub adds : Adds old new front
-  pub is : IfSome told (λ blobs. IsFrontOf front blobs name)
-  pub long : length front ≡ count
+  pub prefix : List ℕ
+  pub adds : Adds old new prefix
+  pub is : IfSome told (λ blobs. IsPrefixOf prefix blobs name)
+  pub long : length prefix ≡ count
 
-none_yet : (told : Option Blobs) (name : List ℕ) → IfSome told (λ blobs. IsFrontOf [] blobs name)
+none_yet : (told : Option Blobs) (name : List ℕ) → IfSome told (λ blobs. IsPrefixOf [] blobs name)
 none_yet None name = tt
 none_yet (Some blobs) name = refl
 
 pub nothing_poured : (stands : List ℕ → Type 0) (told : Option Blobs) (name : List ℕ) → IsPouring stands stands told name 0
 nothing_poured stands told name = record {
-  front = [];
+  prefix = [];
   adds = λ before is. subst stands (sym (append-nil before)) is;
   is = none_yet told name;
   long = refl;
 }
 
-more_front : (told now : Option Blobs) (name front part : List ℕ) (from most : ℕ) → now ≡ told → length front ≡ from
-    → IfSome told (λ blobs. IsFrontOf front blobs name) → IfSome now (λ blobs. HasPart blobs name from most part)
-    → IfSome told (λ blobs. IsFrontOf (front ++ part) blobs name)
-more_front None now name front part from most same here is got = tt
-more_front (Some m) None name front part from most same here is got = cc
-more_front (Some m) (Some n) name front part from most same here is got =
+more_front : (told now : Option Blobs) (name prefix part : List ℕ) (from most : ℕ) → now ≡ told → length prefix ≡ from
+    → IfSome told (λ blobs. IsPrefixOf prefix blobs name) → IfSome now (λ blobs. HasPart blobs name from most part)
+    → IfSome told (λ blobs. IsPrefixOf (prefix ++ part) blobs name)
+more_front None now name prefix part from most same here is got = tt
+more_front (Some m) None name prefix part from most same here is got = cc
+more_front (Some m) (Some n) name prefix part from most same here is got =
     let one : n ≡ m = cc in
     let held : blob_at m name ≡ Some got.blob = ap (λ b. blob_at b name) (sym one) ∙ got.held in
     let blob : unwrap_or (blob_at m name) [] ≡ got.blob = ap (λ o. unwrap_or o []) held in
-    let old : front ≡ take (length front) got.blob = is ∙ ap (take (length front)) blob in
-    let bytes : part ≡ part_of got.blob (length front) most = got.bytes ∙ ap (λ k. part_of got.blob k most) (sym here) in
-    front_grows got.blob front part most old bytes ∙ ap (take (length (front ++ part))) (sym blob)
+    let old : prefix ≡ take (length prefix) got.blob = is ∙ ap (take (length prefix)) blob in
+    let bytes : part ≡ part_of got.blob (length prefix) most = got.bytes ∙ ap (λ k. part_of got.blob k most) (sym here) in
+    front_grows got.blob prefix part most old bytes ∙ ap (take (length (prefix ++ part))) (sym blob)
 
 -- one part more
 pub part_poured : (old now new : List ℕ → Type 0) (told held : Option Blobs) (name part piece : List ℕ) (from next most : ℕ) → held ≡ told
@@ -46,13 +46,13 @@ pub part_poured : (old now new : List ℕ → Type 0) (told held : Option Blobs)
 part_poured old now new told held name part piece from next most same pouring got is adds counted =
     let added : Adds now new part = subst (Adds now new) is adds in
     record {
-      front = pouring.front ++ part;
-      adds = λ before stands. subst new (append_assoc before pouring.front part) (added (before ++ pouring.front) (pouring.adds before stands));
-      is = more_front told held name pouring.front part from most same pouring.long pouring.is got;
-      long = omega (arith, length-append pouring.front part, pouring.long, counted);
+      prefix = pouring.prefix ++ part;
+      adds = λ before stands. subst new (append_assoc before pouring.prefix part) (added (before ++ pouring.prefix) (pouring.adds before stands));
+      is = more_front told held name pouring.prefix part from most same pouring.long pouring.is got;
+      long = omega (arith, length-append pouring.prefix part, pouring.long, counted);
     }
 
--- nothing behind the front
+-- nothing behind the prefix
 pub whole_poured : (old new : List ℕ → Type 0) (told held : Option Blobs) (name part : List ℕ) (from most limit : ℕ) → held ≡ told → 1 ≤ most → from ≤ limit
     → IsPouring old new told name from → IfSome held (λ blobs. HasPart blobs name from most part) → length part ≡ 0
     → IfSome told (λ blobs. HasPouredWhole old new blobs name limit)
@@ -61,10 +61,10 @@ whole_poured old new (Some m) None name part from most limit same some within po
 whole_poured old new (Some m) (Some n) name part from most limit same some within pouring got empty =
     let one : n ≡ m = cc in
     let held : blob_at m name ≡ Some got.blob = ap (λ b. blob_at b name) (sym one) ∙ got.held in
-    let short : length got.blob ≤ length pouring.front = omega (arith, length_part got.blob from most, ap length got.bytes, pouring.long) in
-    let whole : pouring.front ≡ got.blob = pouring.is ∙ ap (λ o. take (length pouring.front) (unwrap_or o [])) held ∙ take_all (length pouring.front) got.blob short in
+    let short : length got.blob ≤ length pouring.prefix = omega (arith, length_part got.blob from most, ap length got.bytes, pouring.long) in
+    let whole : pouring.prefix ≡ got.blob = pouring.is ∙ ap (λ o. take (length pouring.prefix) (unwrap_or o [])) held ∙ take_all (length pouring.prefix) got.blob short in
     record { blob = got.blob; held = held; within = omega (arith, ap length whole, pouring.long, within); adds = subst (Adds old new) whole pouring.adds }
 
 -- what a refusal leaves
 pub front_poured : (old new : List ℕ → Type 0) (told : Option Blobs) (name : List ℕ) (from : ℕ) → IsPouring old new told name from → HasPoured old new told name
-front_poured old new told name from pouring = record { front = pouring.front; adds = pouring.adds; is = pouring.is }
+front_poured old new told name from pouring = record { prefix = pouring.prefix; adds = pouring.adds; is = pouring.is }

@@ -6,19 +6,19 @@ use Rattle.shelf_io.specs.Reads.{HoldsLonger}
 use Rattle.shelf_io.specs.declared.errors.FetchError.{FetchError}
 use Rattle.shelf_io.specs.declared.errors.FetchError.TheVariants as fetch
 
--- a front of the blob under the name; nothing where there is none
-abbrev pub IsFrontOf : List ℕ → Blobs → List ℕ → Type 0
-IsFrontOf front blobs name = front ≡ take (length front) (unwrap_or (blob_at blobs name) [])
+-- a prefix of the blob under the name; nothing where there is none
+abbrev pub IsPrefixOf : List ℕ → Blobs → List ℕ → Type 0
+IsPrefixOf prefix blobs name = prefix ≡ take (length prefix) (unwrap_or (blob_at blobs name) [])
 
 -- these bytes came behind all that the taker stood for
 abbrev pub Adds : (List ℕ → Type 0) → (List ℕ → Type 0) → List ℕ → Type 0
 Adds old new bytes = (before : List ℕ) → old before → new (before ++ bytes)
 
--- some bytes came; where the blobs are told they are a front of the blob
+-- some bytes came; where the blobs are told they are a prefix of the blob
 pub record HasPoured (old new : List ℕ → Type 0) (told : Option Blobs) (name : List ℕ) : Type 0 where
-  pub front : List ℕ
-  pub adds : Adds old new front
-  pub is : IfSome told (λ blobs. IsFrontOf front blobs name)
+  pub prefix : List ℕ
+  pub adds : Adds old new prefix
+  pub is : IfSome told (λ blobs. IsPrefixOf prefix blobs name)
 
 -- the whole blob came
 pub record HasPouredWhole (old new : List ℕ → Type 0) (blobs : Blobs) (name : List ℕ) (limit : ℕ) : Type 0 where
@@ -28,7 +28,7 @@ pub record HasPouredWhole (old new : List ℕ → Type 0) (blobs : Blobs) (name 
   pub adds : Adds old new blob
 
 -- By the answer: where the blobs are told, the whole blob came, or it is too long, or there is none. After a refusal other than
--- want of memory a front of it came.
+-- want of memory a prefix of it came.
 abbrev pub PourGives : (List ℕ → Type 0) → (List ℕ → Type 0) → Option Blobs → List ℕ → ℕ → Result (Unit {0}) FetchError → Type 0
 PourGives old new told name limit (Ok _) = IfSome told (λ blobs. HasPouredWhole old new blobs name limit)
 PourGives old new told name limit (Err fetch.Missing) = IfSome told (λ blobs. blob_at blobs name ≡ None) × HasPoured old new told name

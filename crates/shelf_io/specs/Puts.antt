@@ -9,7 +9,7 @@ abbrev pub put_failed : Result (Unit {0}) SinkError → Bool
 put_failed (Err sink.Fault) = true
 put_failed _ = false
 
--- Where the output is told before the put it is told after it: with all the bytes behind it, and after a refusal with a front of them.
+-- Where the output is told before the put it is told after it: with all the bytes behind it, and after a refusal with a prefix of them.
 abbrev pub PutLeaves : List ℕ → Result (Unit {0}) SinkError → List ℕ → List ℕ → Type 0
 PutLeaves bytes (Ok done) old new = new ≡ old ++ bytes
 PutLeaves bytes (Err error) old new = Puts old new bytes

@@ -1,4 +1,4 @@
-pub mod Fronts
+pub mod Prefixes
 pub mod Coalitions
 pub mod Promises
 pub mod WantOfMemory

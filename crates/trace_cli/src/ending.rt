@@ -3,7 +3,7 @@
 ghost use Rattle.std.specs.Prelude.{◌≡◌, ◌⊎◌};
 ghost use Rattle.shelf_terms.specs.Counts.{Rose};
 ghost use Rattle.outcome_terms.specs.Statuses.{refusal_status};
-ghost use Rattle.outcome_terms.specs.Output.{Delivers, TellsAnswer, TellsFront, TellsRefusal, memory_line, output};
+ghost use Rattle.outcome_terms.specs.Output.{Delivers, TellsAnswer, TellsPrefix, TellsRefusal, memory_line, output};
 ghost use Rattle.command_io.specs.Answers.{left_text};
 
 use cli_words::{Status, refusal_line, refusal_status};
@@ -57,7 +57,7 @@ fn put_refusal<O: Sink>(alloc: Global, refusal: &Refusal, out: &mut O) -> Status
 /// Puts out the error line for want of memory.
 fn put_memory_line<O: Sink>(out: &mut O) -> Status
     ensures status { result ≡ Status.Memory }
-    ensures out { TellsFront memory_line (O.written out.old) (O.written out.new) }
+    ensures out { TellsPrefix memory_line (O.written out.old) (O.written out.new) }
 {
     let _ = out.put(MEMORY_LINE);
     Status::Memory

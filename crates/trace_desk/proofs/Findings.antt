@@ -11,7 +11,7 @@ use Rattle.std.proofs.lemmas.List.Sorted.{All-permutation, Contains-permutation,
 use Rattle.std.proofs.lemmas.Map.Keys.{IsDistinct-IsPermutation, IsDistinct-from_apart, IsStrictlyIncreasing-from_distinct}
 use Rattle.code_terms.specs.Words.{readable}
 use Rattle.decoding_terms.specs.Parameters.{is_allowed_bound}
-use Rattle.decoder_terms.specs.Decoding.{meets_threshold, decoded, least_readable}
+use Rattle.decoder_terms.specs.Decoding.{meets_threshold, decoded, not_enough}
 use Rattle.decoder_terms.proofs.Chosen.{ArePassing, chosen}
 use Rattle.desk_terms.specs.declared.findings.Accused.{Accused}
 use Rattle.desk_terms.specs.declared.findings.Findings.{Findings}

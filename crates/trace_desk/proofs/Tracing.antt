@@ -11,7 +11,7 @@ use Rattle.std.proofs.lemmas.List.Kept.{AllPairs-filter}
 use Rattle.code_terms.specs.Words.{readable}
 use Rattle.decoding_terms.specs.Parameters.{is_allowed_bound}
 use Rattle.decoder_terms.specs.Bounds.{decoding_bound, root_bound}
-use Rattle.decoder_terms.specs.Decoding.{meets_threshold, decoded, least_readable}
+use Rattle.decoder_terms.specs.Decoding.{meets_threshold, decoded, not_enough}
 use Rattle.desk_terms.specs.Bounds.{tracing_bound}
 use Rattle.desk_terms.specs.declared.findings.Accused.{Accused}
 use Rattle.desk_terms.specs.declared.findings.Findings.{Findings}
@@ -31,7 +31,7 @@ use Rattle.trace_desk.proofs.Findings.{sorted_findings}
 
 record IsDone (m k : ℕ) (word : List (Option ℕ)) (c : ℕ) (messages : List ℕ) : Type 0 where
   allowed : is_allowed_bound k c ≡ true
-  enough : nat_lt (least_readable k c) (readable word) ≡ true
+  enough : nat_lt (not_enough k c) (readable word) ≡ true
   messages_are : messages ≡ decoded m k word c
 
 done_by : {A E : Type 0} (allowed enough : Bool) (x y : A) (few bad : E) → (if allowed then (if enough then Ok x else Err few) else Err bad) ≡ Ok y → (allowed ≡ true) × (enough ≡ true) × (y ≡ x)
@@ -41,7 +41,7 @@ done_by false enough x y few bad is = cc
 
 decoding_done : (m k : ℕ) (word : List (Option ℕ)) (c : ℕ) (messages : List ℕ) → decoding m k word c ≡ Ok messages → IsDone m k word c messages
 decoding_done m k word c messages is =
-    let done = done_by (is_allowed_bound k c) (nat_lt (least_readable k c) (readable word)) (decoded m k word c) messages (decoder.TooFew (readable word)) decoder.BadBound is in
+    let done = done_by (is_allowed_bound k c) (nat_lt (not_enough k c) (readable word)) (decoded m k word c) messages (decoder.TooFew (readable word)) decoder.BadBound is in
     record { allowed = done.0; enough = done.1; messages_are = done.2 }
 
 decoded_meet : (m k : ℕ) (word : List (Option ℕ)) (c : ℕ) → All (λ u. (u < 2 ^ (m * k)) × (meets_threshold m k word c u ≡ true)) (decoded m k word c)
@@ -108,7 +108,7 @@ pub traced : (roll : Roll) → IsRoll roll → (word : List (Option ℕ)) (c : �
 traced roll kept word c messages given accused sorted list r is same known shuffled up count same_list =
     let done = decoding_done roll.bits roll.dimension word c messages is in
     let found = the_accused roll kept word c given accused sorted (same ∙ done.messages_are) known shuffled up in
-    granted (is_allowed_bound roll.dimension c) (nat_lt (least_readable roll.dimension c) (readable word)) (findings roll word c) (TooFew (readable word)) BadBound done.allowed done.enough
+    granted (is_allowed_bound roll.dimension c) (nat_lt (not_enough roll.dimension c) (readable word)) (findings roll word c) (TooFew (readable word)) BadBound done.allowed done.enough
     ∙ ap (λ (f : Findings). Ok f) (findings_made roll word c r list count (same_list ∙ found))
 
 -- ---- how many products that takes

@@ -1,7 +1,7 @@
 use Rattle.std.proofs.Common.{◌≡◌, ◌∙◌, sym, ap, vec_len, ◌<◌, ◌+◌, length, arith}
 use Rattle.std.proofs.lemmas.Bool.{eqb-true, eqb-false}
 use Rattle.shelf_terms.proofs.CausesLemmas.{reads_then}
-use Rattle.shelf_io.proofs.Fronts.{front_passes}
+use Rattle.shelf_io.proofs.Prefixes.{front_passes}
 use Rattle.shelf_io.proofs.Poured.{part_poured, whole_poured, front_poured}
 use Rattle.shelf_io.proofs.pouring.pour.Goals as goal
 
@@ -21,9 +21,9 @@ returns-then-next-limit-clause-bytes g c =
     let pouring = c.parts.invariant.pouring in
     let not_none : vec_len c.in-Ok.part ≡ 0 → ⊥ = eqb-false (vec_len c.in-Ok.part) 0 (sym c.is_empty.ensures ∙ c.if-is_empty.false) in
     let some : 0 < length c.in-Ok.part.items = omega arith in
-    let here : c.parts.from ≡ length pouring.front = sym pouring.long in
-    let past : c.args.limit < length pouring.front + length c.in-Ok.part.items = omega arith in (
-      front_passes (shelf.holds c.args.shelf.now) (shelf.holds c.parts.shelf) c.args.name.now pouring.front c.in-Ok.part.items c.parts.from 65536 c.args.limit c.parts.invariant.same here c.in-Ok.ensures.bytes some past,
+    let here : c.parts.from ≡ length pouring.prefix = sym pouring.long in
+    let past : c.args.limit < length pouring.prefix + length c.in-Ok.part.items = omega arith in (
+      front_passes (shelf.holds c.args.shelf.now) (shelf.holds c.parts.shelf) c.args.name.now pouring.prefix c.in-Ok.part.items c.parts.from 65536 c.args.limit c.parts.invariant.same here c.in-Ok.ensures.bytes some past,
       front_poured (taker.stands c.args.taker.now) (taker.stands c.parts.taker) (shelf.holds c.args.shelf.now) c.args.name.now c.parts.from pouring,
     )
 

@@ -1,6 +1,6 @@
 use Rattle.std.proofs.Common.{◌≡◌, ◌≤◌, ◌-◌, vec_len, false}
 use Rattle.shelf_terms.specs.Causes.{ReadCauses}
-use Rattle.shelf_io.proofs.Fronts.{IsFront}
+use Rattle.shelf_io.proofs.Prefixes.{IsFront}
 use Rattle.shelf_io.proofs.whole.fetch.Given as goal
 
 abbrev pub invariant-parts : goal.invariant-parts
@@ -9,7 +9,7 @@ invariant-parts g l =
     record {
       short : vec_len l.whole ≤ l.limit;
       same : shelf.holds l.shelf ≡ shelf.holds l.fn.shelf;
-      front : IsFront (shelf.holds l.fn.shelf) l.name l.whole.items;
+      prefix : IsFront (shelf.holds l.fn.shelf) l.name l.whole.items;
       causes : ReadCauses (shelf.counts l.fn.shelf) (shelf.counts l.shelf) l.name false false;
     }
 

@@ -2,7 +2,7 @@ use Rattle.std.proofs.Common.{◌∙◌, sym, subst}
 use Rattle.shelf_terms.specs.Counts.{Rose}
 use Rattle.outcome_terms.specs.declared.status.Status.{Status}
 use Rattle.outcome_terms.specs.Output.{TellsRefusal}
-use Rattle.trace_cli.proofs.Fronts.{line_fault}
+use Rattle.trace_cli.proofs.Prefixes.{line_fault}
 use Rattle.trace_cli.proofs.ending.put_refusal.Goals as goal
 
 pub returns-in-Err-Fault-clause-out : goal.returns-in-Err-Fault-clause-out
