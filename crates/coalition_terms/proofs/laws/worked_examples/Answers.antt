@@ -1,11 +1,6 @@
 use Rattle.std.proofs.Common.{arith}
-<<<<<<< HEAD:crates/coalition_terms/proofs/laws/worked_examples/Answers.antt
-use Rattle.coalition_terms.proofs.Examples.{licensees_valid, colluders_enrolled, colluders_explain, one_in_common}
-use Rattle.coalition_terms.proofs.laws.worked_examples.Goals as goal
-=======
 use Rattle.coalition_terms.proofs.Examples.{licensees_kept, colluders_enrolled, colluders_explain, one_in_common}
-use Rattle.coalition_terms.proofs.promises.worked_examples.Goals as goal
->>>>>>> desk:crates/coalition_terms/proofs/promises/worked_examples/Answers.antt
+use Rattle.coalition_terms.proofs.laws.worked_examples.Goals as goal
 
 pub returns-clause-kept : goal.returns-clause-kept
 returns-clause-kept c = licensees_kept
