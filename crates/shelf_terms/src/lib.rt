@@ -5,13 +5,13 @@
 
 mod limit;
 
-pub use limit::BLOB_LIMIT;
-
 ghost use Rattle.std.specs.Prelude.{◌≡◌, Bool, false, List, [], ◌∷◌, ℕ};
 ghost use Rattle.shelf_terms.specs.Counts.{Tally};
 ghost use Rattle.shelf_terms.specs.Blobs.{part_of};
 ghost use Rattle.shelf_terms.specs.Causes.{ReadCauses, WriteCauses};
 ghost use Rattle.shelf_terms.specs.Puts.{Puts};
+
+pub use limit::BLOB_LIMIT;
 
 /// A read that was answered, and a read after it: of both together the causes are those of the second.
 pub fn reads_compose()
