@@ -9,4 +9,4 @@ mod fault;
 mod laws;
 
 pub use fault::{TitleFault, TitleKind};
-pub use laws::{worked_examples, worked_faults};
+pub use laws::{texts_are_titles, worked_examples, worked_faults};
