@@ -1,1 +1,6 @@
 pub mod SayLaws
+pub mod DesignLines
+pub mod ListLines
+pub mod MarkLines
+pub mod DigestLines
+pub mod Texts
