@@ -4,3 +4,4 @@ pub mod ListLines
 pub mod MarkLines
 pub mod DigestLines
 pub mod Texts
+pub mod DesignValues

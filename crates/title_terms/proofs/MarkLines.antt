@@ -106,7 +106,7 @@ pub record AreMarksRead (d : Design) (segments : ℕ) (marks : List ℕ) (at aft
   pub keeps : AreMarks segments marks
   pub took : Took at (marked_lines marks) after
 
-no_marks : (segments : ℕ) → AreMarks segments []
+pub no_marks : (segments : ℕ) → AreMarks segments []
 no_marks segments = record { below = All-nil (λ segment. segment < segments); rise = rises_nil }
 
 pub marks_read : (d : Design) (segments : ℕ) (at after : Place) (found : List ℕ) → marked_form d segments at ≡ Ok (found, after) → AreMarksRead d segments found at after

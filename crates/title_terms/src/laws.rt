@@ -2,7 +2,8 @@
 
 ghost use Rattle.std.specs.Prelude.{◌↔◌, ◌≡◌, ℕ, true, false, List, [], ◌∷◌, ◌++◌, codes, Some, None, Ok, Err};
 ghost use Rattle.form_terms.specs.Forms.{fault};
-ghost use Rattle.title_terms.specs.Designs.{variant_name, is_affix, are_enough, have_room, is_light};
+ghost use Rattle.title_terms.specs.Designs.{Design, IsDesign, variant_name, is_affix, are_enough, have_room, is_light};
+ghost use Rattle.title_terms.specs.DesignRules.{Proposal, proposal, design_from};
 ghost use Rattle.title_terms.specs.Titles.{Title, IsTitle};
 ghost use Rattle.title_terms.specs.TitleText.{title_of, title_text, segment_said, segment_text};
 ghost use Rattle.title_terms.specs.declared.fault.TitleKind.TheVariants as kinds;
@@ -39,4 +40,9 @@ pub fn worked_faults()
 /// So what is written is read again as itself, and no text is that of two titles.
 pub fn texts_are_titles()
     ensures { (bytes : List ℕ) (t : Title) → (title_of bytes ≡ Ok t) ↔ (IsTitle t × (bytes ≡ title_text t)) }
+{}
+
+/// Values make a design exactly where they are the values of that design, and the design is valid.
+pub fn designs_keep_the_rules()
+    ensures { (p : Proposal) (d : Design) → (design_from p ≡ Ok d) ↔ (IsDesign d × (p ≡ proposal d)) }
 {}

@@ -9,4 +9,4 @@ mod fault;
 mod laws;
 
 pub use fault::{DesignFault, Key, TitleFault, TitleKind};
-pub use laws::{texts_are_titles, worked_examples, worked_faults};
+pub use laws::{designs_keep_the_rules, texts_are_titles, worked_examples, worked_faults};
