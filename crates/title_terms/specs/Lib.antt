@@ -3,3 +3,4 @@ pub mod DesignRules
 pub mod DesignText
 pub mod Titles
 pub mod TitleText
+pub mod Pair
