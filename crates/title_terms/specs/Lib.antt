@@ -4,3 +4,4 @@ pub mod DesignText
 pub mod Titles
 pub mod TitleText
 pub mod Pair
+pub mod Film

@@ -1,11 +1,15 @@
 //! The laws of designs and titles: each is the contract of a function that does nothing.
 
-ghost use Rattle.std.specs.Prelude.{◌↔◌, ◌≡◌, ◌+◌, ℕ, true, false, List, [], ◌∷◌, ◌++◌, length, map, take, replicate, slice_index_or, codes, Some, None, Ok, Err};
+ghost use Rattle.std.specs.Prelude.{◌↔◌, ◌≡◌, ◌+◌, ℕ, true, false, List, [], ◌∷◌, ◌++◌, length, map, take, replicate, set, slice_index_or, codes, Some, None, Ok, Err, IsOk};
 ghost use Rattle.std.specs.List.{flat_map, range_with_len};
 ghost use Rattle.form_terms.specs.TextLines.{line};
 ghost use Rattle.form_terms.specs.Forms.{fault};
 ghost use Rattle.title_terms.specs.Designs.{Design, IsDesign, variant_name, is_affix, are_enough, have_room, is_light};
 ghost use Rattle.title_terms.specs.DesignRules.{Proposal, proposal, design_from};
+ghost use Rattle.title_terms.specs.DesignText.{design_of};
+ghost use Rattle.title_terms.specs.Film.{film_design, film_lines, film_with, film_with_two, designed};
+ghost use Rattle.title_terms.specs.declared.fault.Key.TheVariants as keys;
+ghost use Rattle.title_terms.specs.declared.fault.DesignFault.TheVariants.{NotToml, Missing, WrongType, BadName, BadM, BadK, BadBound, TooMuchWork, BadPrefix, BadSuffix, BadMarked, TooManyPlaces, TooWeak};
 ghost use Rattle.title_terms.specs.Titles.{Title, IsTitle};
 ghost use Rattle.title_terms.specs.TitleText.{title_of, title_text, segment_said, segment_text};
 ghost use Rattle.title_terms.specs.Pair.{pair_lines, pair_title, first_lines_read, read_with};
@@ -93,6 +97,65 @@ pub fn faults_of_digests()
 /// So what is written is read again as itself, and no text is that of two titles.
 pub fn texts_are_titles()
     ensures { (bytes : List ℕ) (t : Title) → (title_of bytes ≡ Ok t) ↔ (IsTitle t × (bytes ≡ title_text t)) }
+{}
+
+/// A small design, read from its document and from other spellings of it.
+pub fn worked_designs()
+    ensures film { designed film_lines ≡ Ok film_design }
+    ensures spelled_otherwise { designed (codes "marked = [0, 1, 2, 3,\r\n  4, 5, 6, 7, 8, 0x9, ] # all" ∷ codes "\"m\" = 0x0_4" ∷ codes "k=+2" ∷ codes "c = 0b11" ∷ codes "prefix = 'v/'" ∷ codes "suffix = \"\\u002ets\"" ∷ codes "name = \"\"\"film\"\"\"" ∷ codes "title = 1" ∷ codes "[more]" ∷ codes "m = 9" ∷ []) ≡ Ok film_design }
+{}
+
+/// What is wrong with documents before any rule is tested.
+pub fn faults_of_documents()
+    ensures twice { designed (film_with 1 (codes "m = 4\nm = 4")) ≡ Err NotToml }
+    ensures wide { designed (film_with 1 (codes "m = 99999999999999999999")) ≡ Err NotToml }
+    ensures garbled { designed (film_with 0 (codes "name = \"" ++ (255 ∷ codes "\""))) ≡ Err NotToml }
+    ensures not_closed { designed (film_with 6 (codes "marked = [0")) ≡ Err NotToml }
+    ensures empty { design_of [] ≡ Err (Missing keys.Name) }
+    ensures missing { map (λ key. designed (film_with key [])) (range_with_len 0 7)
+        ≡ map (λ key. Err (Missing key)) (keys.Name ∷ keys.M ∷ keys.K ∷ keys.C ∷ keys.Prefix ∷ keys.Suffix ∷ keys.Marked ∷ []) }
+    ensures wrong_type {
+        map designed (film_with 0 (codes "name = 1") ∷ film_with 1 (codes "m = 4.0") ∷ film_with 2 (codes "k = \"2\"") ∷ film_with 3 (codes "c = true") ∷ film_with 4 (codes "prefix = []") ∷ film_with 5 (codes "suffix.x = \".ts\"") ∷ film_with 6 (codes "marked = 0") ∷ [])
+        ≡ map (λ key. Err (WrongType key)) (keys.Name ∷ keys.M ∷ keys.K ∷ keys.C ∷ keys.Prefix ∷ keys.Suffix ∷ keys.Marked ∷ []) }
+    ensures table { designed (film_with 1 (codes "m.x = 4")) ≡ Err (WrongType keys.M) }
+{}
+
+/// Each rule of a design, and the values next to its bounds.
+pub fn faults_of_values()
+    ensures name { map designed (film_with 0 (codes "name = \"\"") ∷ film_with 0 (codes "name = \"a b\"") ∷ []) ≡ replicate 2 (Err BadName) }
+    ensures bits { map designed (film_with 1 (codes "m = 3") ∷ film_with 1 (codes "m = 9") ∷ film_with 1 (codes "m = -4") ∷ film_with 1 (codes "m = 4294967300") ∷ []) ≡ replicate 4 (Err BadM) }
+    ensures dimension { map designed (film_with 2 (codes "k = 1") ∷ film_with 2 (codes "k = 14") ∷ film_with 2 (codes "k = -2") ∷ []) ≡ replicate 3 (Err BadK) }
+    ensures bound { map designed (film_with 3 (codes "c = 0") ∷ film_with 3 (codes "c = 9") ∷ film_with 3 (codes "c = -3") ∷ []) ≡ replicate 3 (Err BadBound) }
+    ensures work { designed (film_with_two 2 (codes "k = 3") 3 (codes "c = 7")) ≡ Err TooMuchWork }
+    ensures prefix { designed (film_with 4 (codes "prefix = \"v \"")) ≡ Err BadPrefix }
+    ensures suffix { designed (film_with 5 (codes "suffix = \"0123456789012345678901234567890123456789012345678901234567890123.\"")) ≡ Err BadSuffix }
+    ensures no_affix { IsOk (designed (film_with_two 4 (codes "prefix = \"\"") 5 (codes "suffix = \"\""))) }
+    ensures marked_twice { designed (film_with 6 (codes "marked = [0, 0]")) ≡ Err (BadMarked 1) }
+    ensures marked_back { designed (film_with 6 (codes "marked = [0, 2, 1, 0]")) ≡ Err (BadMarked 2) }
+    ensures marked_past { map designed (film_with 6 (codes "marked = [100000]") ∷ film_with 6 (codes "marked = [-1]") ∷ film_with 6 (codes "marked = [\"0\"]") ∷ film_with 6 (codes "marked = [0.0]") ∷ []) ≡ replicate 4 (Err (BadMarked 0)) }
+    ensures most_marked { IsOk (designed (film_with 6 (codes "marked = [0, 1, 2, 3, 4, 5, 6, 7, 8, 9, 10, 11, 12, 13, 14, 99999]"))) }
+    ensures too_many { designed (film_with 6 (codes "marked = [0, 1, 2, 3, 4, 5, 6, 7, 8, 9, 10, 11, 12, 13, 14, 15, 16]")) ≡ Err TooManyPlaces }
+    ensures too_weak { designed (film_with 6 (codes "marked = [0, 1, 2, 3, 4, 5, 6, 7, 8]")) ≡ Err TooWeak }
+    ensures none_marked { designed (film_with 6 (codes "marked = []")) ≡ Err TooWeak }
+{}
+
+/// Where two things are wrong with a document, which of them is reported.
+pub fn first_faults()
+    ensures toml_first { designed (film_with_two 0 (codes "name = 1") 1 (codes "m = ")) ≡ Err NotToml }
+    // Each key is looked up whole before the next one.
+    ensures key_by_key { designed (film_with_two 0 (codes "name = 1") 1 []) ≡ Err (WrongType keys.Name) }
+    ensures missing_first { designed (film_with_two 0 [] 1 (codes "m = \"\"")) ≡ Err (Missing keys.Name) }
+    ensures keys_before_rules { designed (film_with_two 0 (codes "name = \"\"") 6 (codes "marked = 0")) ≡ Err (WrongType keys.Marked) }
+    ensures name_before_bits { designed (film_with_two 0 (codes "name = \"\"") 1 (codes "m = 9")) ≡ Err BadName }
+    ensures bits_before_dimension { designed (film_with_two 1 (codes "m = 9") 2 (codes "k = 1")) ≡ Err BadM }
+    ensures dimension_before_bound { designed (film_with_two 2 (codes "k = 1") 3 (codes "c = 0")) ≡ Err BadK }
+    ensures bound_before_work { designed (film_with_two 2 (codes "k = 3") 3 (codes "c = 9")) ≡ Err BadBound }
+    ensures bound_before_prefix { designed (film_with_two 3 (codes "c = 0") 4 (codes "prefix = \"v \"")) ≡ Err BadBound }
+    ensures work_before_prefix { designed (set (film_with_two 2 (codes "k = 3") 3 (codes "c = 7")) 4 (codes "prefix = \"v \"")) ≡ Err TooMuchWork }
+    ensures prefix_before_suffix { designed (film_with_two 4 (codes "prefix = \"v \"") 5 (codes "suffix = \" \"")) ≡ Err BadPrefix }
+    ensures suffix_before_marked { designed (film_with_two 5 (codes "suffix = \" \"") 6 (codes "marked = [0, 0]")) ≡ Err BadSuffix }
+    ensures marked_before_places { designed (film_with 6 (codes "marked = [0, 1, 2, 3, 4, 5, 6, 7, 8, 9, 10, 11, 12, 13, 14, 15, 16, 16]")) ≡ Err (BadMarked 17) }
+    ensures places_before_weakness { designed (film_with_two 3 (codes "c = 8") 6 (codes "marked = [0, 1, 2, 3, 4, 5, 6, 7, 8, 9, 10, 11, 12, 13, 14, 15, 16]")) ≡ Err TooManyPlaces }
 {}
 
 /// Values make a design exactly where they are the values of that design, and the design is valid.
