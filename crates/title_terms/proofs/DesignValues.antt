@@ -115,7 +115,7 @@ accepted p d is =
     let made : Design = record { name = p.name; bits = m.x; dimension = k.x; bound = c.x; prefix = p.prefix; suffix = p.suffix; marked = marked.x } in
     let marks : p.marked ≡ map Some marked.x = list.items_are ∙ ap (map Some) (sym list.all_are) in
     let values : p ≡ proposal made =
-        λ i. record { name = p.name; bits = m_rule.is i; dimension = k_rule.is i; bound = c_rule.is i; prefix = p.prefix; suffix = p.suffix; marked = marks i } in
+    λ i. record { name = p.name; bits = m_rule.is i; dimension = k_rule.is i; bound = c_rule.is i; prefix = p.prefix; suffix = p.suffix; marked = marks i } in
     let here : IsAccepted p made = record {
       valid = record {
         name = name.0;

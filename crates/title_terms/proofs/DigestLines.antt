@@ -65,7 +65,7 @@ row_again past digest more keeps number lines tail =
     let inside : length past < length (past ++ digest ∷ more) = omega (arith, length-append past (digest ∷ more)) in
     let valid : IsDigest digest = subst IsDigest (get_or-append_seam past digest more digest) (keeps.valid (length past) digest inside) in
     let differ : (k : ℕ) (d : List ℕ) → k < length past → get_or past k d ≢ digest =
-        λ k d lt same. keeps.distinct k (length past) d lt inside (get_or-append past (digest ∷ more) d k lt ∙ same ∙ sym (get_or-append_seam past digest more d)) in
+    λ k d lt same. keeps.distinct k (length past) d lt inside (get_or-append past (digest ∷ more) d k lt ∙ same ∙ sym (get_or-append_seam past digest more d)) in
     let new : not (list_any (bytes_eq digest) past) ≡ true = not_from_false (list_any (bytes_eq digest) past) (different_is_new digest past differ) in
     join (row kinds_of_rows digest_said) _ (line_again kinds_of_rows digest_said (encode_lower digest) digest number lines tail (digest_again digest valid))
     (join {K = TitleKind} (require (not (list_any (bytes_eq digest) past)) kinds.Duplicate) _ (meets kinds.Duplicate (place (number + 1) lines tail) new) (given digest (place (number + 1) lines tail)))

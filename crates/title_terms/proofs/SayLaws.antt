@@ -138,7 +138,7 @@ parted_again front back unspaced =
     let first : position_or_len p text ≡ length front = position_or_len_is p text (length front) 0 (omega (arith, long)) earlier (λ _. ap p (get_or-append_seam front 32 back 0)) in
     let found : position p text ≡ Some (length front) = rw (first, lt-ltb (length front) (length text) (omega (arith, long))) refl in
     let behind : drop (length front + 1) text ≡ back =
-        ap (drop (length front + 1)) (sym (append_assoc front (codes " ") back)) ∙ drop_at (front ++ codes " ") back (length front + 1) (length-append front (codes " ")) in
+    ap (drop (length front + 1)) (sym (append_assoc front (codes " ") back)) ∙ drop_at (front ++ codes " ") back (length front + 1) (length-append front (codes " ")) in
     ap (parted_at text) found ∙ (λ i. Some (take_at front (codes " " ++ back) (length front) refl i, behind i))
 
 cut_again : (cut : Bool) → cut_said (cut_text cut) ≡ Some cut

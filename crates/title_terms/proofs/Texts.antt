@@ -98,13 +98,13 @@ design_one d sketch =
     let k_small : d.dimension < 2 ^ 128 = omega (arith, leb-true d.dimension 13 k_high) in
     let c_small : d.bound < 2 ^ 128 = omega (arith, leb-true d.bound 8 c_high) in
     let lines : OneLines (design_lines d) =
-        first (OneLine_from (codes "title 1") refl)
-        (first (word_one (codes "name ") d.name refl (plain_no_line_feed d.name sketch.name))
-        (first (word_one (codes "m ") (decimal d.bits) refl (OneLine-decimal d.bits m_small))
-        (first (word_one (codes "k ") (decimal d.dimension) refl (OneLine-decimal d.dimension k_small))
-        (first (word_one (codes "c ") (decimal d.bound) refl (OneLine-decimal d.bound c_small))
-        (first (word_one (codes "prefix ") d.prefix refl (affix_one_line d.prefix sketch.prefix))
-        (first (word_one (codes "suffix ") d.suffix refl (affix_one_line d.suffix sketch.suffix)) none)))))) in
+    first (OneLine_from (codes "title 1") refl)
+    (first (word_one (codes "name ") d.name refl (plain_no_line_feed d.name sketch.name))
+    (first (word_one (codes "m ") (decimal d.bits) refl (OneLine-decimal d.bits m_small))
+    (first (word_one (codes "k ") (decimal d.dimension) refl (OneLine-decimal d.dimension k_small))
+    (first (word_one (codes "c ") (decimal d.bound) refl (OneLine-decimal d.bound c_small))
+    (first (word_one (codes "prefix ") d.prefix refl (affix_one_line d.prefix sketch.prefix))
+    (first (word_one (codes "suffix ") d.suffix refl (affix_one_line d.suffix sketch.suffix)) none)))))) in
     all_from lines
 
 cut_one : (cut : Bool) → OneLine (cut_text cut)
@@ -134,10 +134,10 @@ list_one p valid =
     let segments : All OneLine (map segment_text p.segments) = All-map OneLine segment_text p.segments (All-weaker IsSegment (λ s. OneLine (segment_text s)) segment_one p.segments valid.segments) in
     let heads : List (List ℕ) = (codes "version " ++ decimal p.version) ∷ (codes "target " ++ decimal p.target) ∷ (codes "sequence " ++ decimal p.sequence) ∷ (codes "segments " ++ decimal (length p.segments)) ∷ [] in
     let lines : OneLines heads =
-        first (word_one (codes "version ") (decimal p.version) refl (OneLine-decimal p.version version_small))
-        (first (word_one (codes "target ") (decimal p.target) refl (OneLine-decimal p.target target_small))
-        (first (word_one (codes "sequence ") (decimal p.sequence) refl (OneLine-decimal p.sequence sequence_small))
-        (first (word_one (codes "segments ") (decimal (length p.segments)) refl (OneLine-decimal (length p.segments) count_small)) none))) in
+    first (word_one (codes "version ") (decimal p.version) refl (OneLine-decimal p.version version_small))
+    (first (word_one (codes "target ") (decimal p.target) refl (OneLine-decimal p.target target_small))
+    (first (word_one (codes "sequence ") (decimal p.sequence) refl (OneLine-decimal p.sequence sequence_small))
+    (first (word_one (codes "segments ") (decimal (length p.segments)) refl (OneLine-decimal (length p.segments) count_small)) none))) in
     All-append OneLine heads (map segment_text p.segments) (all_from lines) segments
 
 marks_one : (segments : ℕ) (marks : List ℕ) → segments ≤ 100000 → length marks < 2 ^ 128 → AreMarks segments marks → All OneLine (marked_lines marks)
@@ -183,14 +183,14 @@ written_is_read bytes t valid is =
     let few = few_marks t.design.bits (places t.design) valid.design.bits valid.design.room in
     let nothing_more : digest_lines ++ [] ≡ digest_lines = append-nil digest_lines in
     let taken : rows_after [] (length t.digests) digest_form (place at_digests (digest_lines ++ []) []) ≡ Ok (t.digests, place (at_digests + length t.digests) [] []) =
-        digests_again t.digests at_digests [] (record { valid = valid.digests; distinct = valid.distinct }) in
+    digests_again t.digests at_digests [] (record { valid = valid.digests; distinct = valid.distinct }) in
     let read : rows_after [] (length marks * 2 ^ t.design.bits) digest_form (place at_digests digest_lines []) ≡ Ok (t.digests, place (at_digests + length t.digests) [] []) = rw (← valid.full, ← nothing_more) taken in
     let whole : title_form (place 0 (title_lines t) []) ≡ Ok (t, place (at_digests + length t.digests) [] []) =
-        join design_form _ (design_again t.design (list_lines t.list ++ mark_lines) (sketch_of t.design valid.design))
-        (join list_form _ (list_again t.list 7 mark_lines valid.list)
-        (join (marked_form bare segments) _ (marks_again bare segments marks at_marks digest_lines valid.list.room few valid.design.enough valid.design.room (record { below = valid.marked; rise = valid.design.ascending }))
-        (join (rows_after [] (length marks * 2 ^ t.design.bits) digest_form) _ read
-        (join (the_end kinds.Form) _ (ends kinds.Form (at_digests + length t.digests)) (given t (place (at_digests + length t.digests) [] [])))))) in
+    join design_form _ (design_again t.design (list_lines t.list ++ mark_lines) (sketch_of t.design valid.design))
+    (join list_form _ (list_again t.list 7 mark_lines valid.list)
+    (join (marked_form bare segments) _ (marks_again bare segments marks at_marks digest_lines valid.list.room few valid.design.enough valid.design.room (record { below = valid.marked; rise = valid.design.ascending }))
+    (join (rows_after [] (length marks * 2 ^ t.design.bits) digest_form) _ read
+    (join (the_end kinds.Form) _ (ends kinds.Form (at_digests + length t.digests)) (given t (place (at_digests + length t.digests) [] [])))))) in
     ap (λ (b : List ℕ). found_in (title_form (before 0 b))) is
     ∙ ap (λ (p : Place). found_in (title_form p)) (before_lines (title_lines t) (lines_one t valid))
     ∙ ap found_in whole
