@@ -1,0 +1,5 @@
+pub mod Licensees
+pub mod Variants
+pub mod Making
+pub mod Details
+pub mod Pair
