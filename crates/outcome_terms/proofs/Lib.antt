@@ -6,3 +6,6 @@ pub mod Givens
 pub mod Performing
 pub mod Calls
 pub mod Headlines
+pub mod AlongLaws
+pub mod TitleMaking
+pub mod PackagingHeadlines

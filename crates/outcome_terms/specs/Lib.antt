@@ -13,3 +13,7 @@ pub mod Outcome
 pub mod Output
 pub mod Call
 pub mod Reports
+pub mod Along
+pub mod TitleCommand
+pub mod PackageCommand
+pub mod PackagingReports

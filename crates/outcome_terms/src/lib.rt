@@ -3,12 +3,14 @@
 
 mod fault;
 mod laws;
+mod packaging;
 mod parameter_rule;
 mod refusal;
 mod status;
 
 pub use fault::Fault;
 pub use laws::{readings_compose, worked_examples};
+pub use packaging::{done_packaging, readings_go_along, titles_are_made};
 pub use parameter_rule::ParameterRule;
 pub use refusal::Refusal;
 pub use status::Status;
