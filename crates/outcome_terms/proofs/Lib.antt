@@ -9,3 +9,4 @@ pub mod Headlines
 pub mod AlongLaws
 pub mod TitleMaking
 pub mod PackagingHeadlines
+pub mod GivenParts

@@ -16,26 +16,10 @@ use Rattle.packaging_terms.specs.Making as hindrances
 use Rattle.packaging_terms.specs.Making.{Hindrance, NoSegment, Same, held_digest, twin, hindrance_of, hindrance, first_of, title_with, unless_hindered, made}
 use Rattle.outcome_terms.specs.declared.refusal.Refusal.{Refusal}
 use Rattle.outcome_terms.specs.declared.refusal.Refusal.TheVariants as refusal
-use Rattle.outcome_terms.specs.Reading.{Reading, Give, Refuse, Read, ◌>>=◌, ◌>>◌, blob_limit, within_limit, read_blob, with_bytes, given}
+use Rattle.outcome_terms.specs.Reading.{Give, ◌>>=◌, ◌>>◌, blob_limit, within_limit, with_bytes, given}
 use Rattle.outcome_terms.specs.Along.{along}
+use Rattle.outcome_terms.proofs.GivenParts.{went, given_then}
 use Rattle.outcome_terms.specs.TitleCommand.{Telling, digest_under, with_digest, with_variant, title_made, hindrance_refusal, told_title}
-
--- ---- one reading and then another, over a map of blobs
-
-abbrev went : {A B : Type 0} → Result A Refusal → (A → Result B Refusal) → Result B Refusal
-went (Ok x) f = f x
-went (Err e) f = Err e
-
-given_then : {A B : Type 0} (blobs : Blobs) (reading : Reading A) (f : A → Reading B) → given blobs (reading >>= f) ≡ went (given blobs reading) (λ x. given blobs (f x))
-unfolding given ◌>>=◌
-given_then blobs (Give x) f = refl
-given_then blobs (Refuse fault) f = refl
-given_then {A} {B} blobs (Read name next) f = by (λ bytes. given_then blobs (next bytes) f) (read_blob blobs name)
-  where
-    by : ((bytes : List ℕ) → given blobs (next bytes >>= f) ≡ went (given blobs (next bytes)) (λ x. given blobs (f x)))
-        → (r : Result (List ℕ) Refusal) → with_bytes r (λ bytes. given blobs (next bytes >>= f)) ≡ went (with_bytes r (λ bytes. given blobs (next bytes))) (λ x. given blobs (f x))
-    by later (Ok bytes) = later bytes
-    by later (Err e) = refl
 
 -- ---- where an earlier one is found
 

@@ -10,7 +10,7 @@ mod status;
 
 pub use fault::Fault;
 pub use laws::{readings_compose, worked_examples};
-pub use packaging::{done_packaging, readings_go_along, titles_are_made};
+pub use packaging::{done_packaging, packages_end, readings_go_along, titles_are_made, titles_end};
 pub use parameter_rule::ParameterRule;
 pub use refusal::Refusal;
 pub use status::Status;

@@ -17,6 +17,9 @@ use Rattle.title_terms.specs.declared.fault.TitleKind.TheVariants as kinds
 use Rattle.title_terms.specs.Designs.{Design, are_bits, is_dimension, is_bound, is_light, is_affix, are_enough, have_room, is_above}
 use Rattle.title_terms.specs.Titles.{Title}
 
+abbrev pub TitleFault : Type 0
+TitleFault = LineFault TitleKind
+
 -- ---- the text
 
 abbrev pub cut_text : Bool → List ℕ
@@ -177,5 +180,5 @@ title_form = do
   give (record { design = record d { marked = marked }; list = list; digests = digests })
 
 -- the title that a text spells, or the first line that breaks the form and what is wrong with it
-unfoldable pub title_of : List ℕ → Result Title (LineFault TitleKind)
+unfoldable pub title_of : List ℕ → Result Title TitleFault
 title_of bytes = read_by title_form bytes
