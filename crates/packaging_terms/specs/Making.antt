@@ -1,6 +1,6 @@
 -- What is made of a design, a media playlist and the variants that a map of blobs holds: a title, or the first variant in order
 -- that stands in the way. Each variant is looked at by itself, beside the earlier ones. This project's own.
-use Rattle.std.specs.Prelude.{ℕ, nat_le, if◌then◌else◌, List, [], ◌∷◌, length, map, Option, Some, None, Result, Ok, Err}
+use Rattle.std.specs.Prelude.{◌≡◌, ℕ, true, nat_le, slice_get, if◌then◌else◌, List, [], ◌∷◌, length, map, Option, Some, None, Result, Ok, Err}
 use Rattle.std.specs.List.{find, range_with_len}
 use Rattle.std.specs.Option.{option_map, unwrap_or}
 use Rattle.std.specs.Str.{bytes_eq}
@@ -58,3 +58,10 @@ unfoldable pub made : ℕ → Blobs → Design → Playlist → Result Title Hin
 made limit blobs d p =
     unless_hindered (first_of (option_map NoSegment (unmarkable d p) ∷ map (hindrance limit blobs d) (variants d)))
     (title_with d p (map (held_digest blobs d) (variants d)))
+
+-- a held variant, not longer than the limit, whose digest the title has
+pub record HoldsVariant (limit : ℕ) (blobs : Blobs) (t : Title) (variant : ℕ) : Type 0 where
+  pub bytes : List ℕ
+  pub held : blob_at blobs (blob_of t.design variant) ≡ Some bytes
+  pub short : nat_le (length bytes) limit ≡ true
+  pub digest : slice_get t.digests variant ≡ Some (sha256 bytes)

@@ -1,19 +1,21 @@
 //! The laws of packaging: each is the contract of a function that does nothing.
 
-ghost use Rattle.std.specs.Prelude.{◌≡◌, ◌<◌, ◌^◌, ℕ, true, false, List, [], ◌∷◌, ◌++◌, slice_get, slice_index, codes, Option, Some, None, Ok, Err};
+ghost use Rattle.std.specs.Prelude.{◌≡◌, ◌<◌, ◌*◌, ◌^◌, ℕ, true, false, List, [], ◌∷◌, ◌++◌, slice_get, slice_index, codes, Option, Some, None, Ok, Err};
 ghost use Rattle.form_terms.specs.Forms.{fault};
 ghost use Rattle.register_terms.specs.Enrolment.{Enrolment};
-ghost use Rattle.playlist_terms.specs.Playlists.{PlaylistSegment};
+ghost use Rattle.shelf_terms.specs.Blobs.{Blobs};
+ghost use Rattle.playlist_terms.specs.Playlists.{PlaylistSegment, Playlist, IsPlaylist};
 ghost use Rattle.playlist_terms.specs.Reading.{playlist_of, at_line};
 ghost use Rattle.playlist_terms.specs.Pair.{pair_with};
 ghost use Rattle.playlist_terms.specs.declared.fault.PlaylistFault.TheVariants.{NoUri, NoTarget};
-ghost use Rattle.title_terms.specs.Designs.{Design, places, variant_name};
+ghost use Rattle.title_terms.specs.Designs.{Design, IsDesign, places, symbols, variant_name};
 ghost use Rattle.title_terms.specs.Titles.{Title, IsTitle};
 ghost use Rattle.title_terms.specs.Pair.{pair_title};
 ghost use Rattle.title_terms.specs.declared.fault.TitleKind.TheVariants.{Form};
 ghost use Rattle.title_terms.specs.declared.fault.Key.TheVariants as keys;
 ghost use Rattle.title_terms.specs.declared.fault.DesignFault.TheVariants.{Missing, WrongType, TooWeak, BadMarked};
 ghost use Rattle.packaging_terms.specs.Licensees.{fits, place_of, symbol_at, licensed_list, licensed_text, whole_seconds, raised_target};
+ghost use Rattle.packaging_terms.specs.Making.{made, title_with, HoldsVariant};
 ghost use Rattle.packaging_terms.specs.Details.{packaging_detail};
 ghost use Rattle.packaging_terms.specs.Pair.{twenty, list_of};
 ghost use Rattle.packaging_terms.specs.declared.fault.PackagingFault.TheVariants.{BadDesign, BadPlaylist, BadTitle, Mismatch, Duplicate, NoSegment};
@@ -64,4 +66,11 @@ pub fn licensees_get_their_variants()
 pub fn variants_have_their_own_names()
     ensures place { (d : Design) (i j v w : ℕ) → i < 2 ^ 128 → j < 2 ^ 128 → v < 256 → w < 256 → variant_name d i v ≡ variant_name d j w → i ≡ j }
     ensures symbol { (d : Design) (i j v w : ℕ) → i < 2 ^ 128 → j < 2 ^ 128 → v < 256 → w < 256 → variant_name d i v ≡ variant_name d j w → v ≡ w }
+{}
+
+/// A title that is made of held variants is valid, has the design and the list that it is made of, and the digest of each variant.
+pub fn made_titles_are_valid()
+    ensures valid { (limit : ℕ) (blobs : Blobs) (d : Design) (p : Playlist) (t : Title) → IsDesign d → IsPlaylist p → made limit blobs d p ≡ Ok t → IsTitle t }
+    ensures parts { (limit : ℕ) (blobs : Blobs) (d : Design) (p : Playlist) (t : Title) → made limit blobs d p ≡ Ok t → t ≡ title_with d p t.digests }
+    ensures held { (limit : ℕ) (blobs : Blobs) (d : Design) (p : Playlist) (t : Title) (variant : ℕ) → made limit blobs d p ≡ Ok t → variant < places d * symbols d → HoldsVariant limit blobs t variant }
 {}
