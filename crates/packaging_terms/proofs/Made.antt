@@ -1,12 +1,12 @@
 -- A title that is made of held variants is valid, and has the digest of each of them.
-use Rattle.std.proofs.Common.{◌≡◌, ◌≢◌, ◌∙◌, sym, ap, subst, ℕ, zero, suc, ◌*◌, ◌<◌, Bool, true, false, cond, not, List, [], ◌∷◌, length, map, get_or, Option, Some, None, Ok, All, refl, arith, inl, inr}
-use Rattle.std.specs.Prelude.{nat_le, nat_lt, slice_get}
+use Rattle.std.proofs.Common.{◌+◌, Err, ◌≡◌, ◌≢◌, ◌∙◌, sym, ap, subst, ℕ, zero, suc, ◌*◌, ◌<◌, Bool, true, false, cond, List, [], ◌∷◌, length, map, get_or, Option, Some, None, Ok, All, refl, arith, inl, inr}
+use Rattle.std.specs.Prelude.{nat_le, slice_get}
 use Rattle.std.specs.List.{AllPairs, find, range_with_len}
 use Rattle.std.specs.Option.{option_map, unwrap_or}
 use Rattle.std.specs.Str.{bytes_eq}
 use Rattle.std.specs.Int.{w32, to_be_bytes, byte_at}
 use Rattle.std.proofs.Math.ListN.{get_or-eq_default}
-use Rattle.std.proofs.lemmas.Bool.{cases_lt, ltb-true, not-false}
+use Rattle.std.proofs.lemmas.Bool.{cases_lt, leb-false}
 use Rattle.std.proofs.lemmas.List.Elements.{All-nil, All-cons, All-append, All-map, All-weaker}
 use Rattle.std.proofs.lemmas.List.FromFn.{length-map-range_with_len, length-range_with_len, get_or-range_with_len, get_or-map-range_with_len}
 use Rattle.std.proofs.lemmas.Option.{slice_get-get_or}
@@ -122,9 +122,9 @@ made_valid limit blobs d p t design list is =
     let long : length digests ≡ count = length-map-range_with_len (held_digest blobs d) 0 count in
     let at : (i : ℕ) (e : List ℕ) → i < count → get_or digests i e ≡ held_digest blobs d i = λ i e lt. get_or-map-range_with_len (held_digest blobs d) 0 count i i e lt (omega arith) in
     let inside : All (λ segment. segment < length p.segments) d.marked =
-    All-weaker (λ segment. not (nat_lt segment (length p.segments)) ≡ false) (λ segment. segment < length p.segments)
-    (λ segment passes. ltb-true segment (length p.segments) (not-false (nat_lt segment (length p.segments)) passes)) d.marked
-    (none_found (λ segment. not (nat_lt segment (length p.segments))) d.marked m.markable) in
+    All-weaker (λ segment. nat_le (length p.segments) segment ≡ false) (λ segment. segment < length p.segments)
+    (λ segment within. leb-false (length p.segments) segment within) d.marked
+    (none_found (λ segment. nat_le (length p.segments) segment) d.marked m.markable) in
     let apart : AllPairs (λ x y. x ≢ y) digests =
     λ i j e lt within same.
     let j_in : j < count = omega (arith, within, long) in
@@ -162,3 +162,47 @@ made_holds limit blobs d p t variant is lt =
       digest = at ∙ ap (λ (o : Option (List ℕ)). Some (sha256 (unwrap_or o []))) f.held;
     } in
     subst (λ (t : Title). HoldsVariant limit blobs t variant) (sym m.is) here
+
+-- ---- the first that stands in the way
+
+first_at : (found : List (Option Hindrance)) (k : ℕ) (h : Hindrance) → k < length found → ((i : ℕ) → i < k → get_or found i None ≡ None) → get_or found k None ≡ Some h → first_of found ≡ Some h
+first_at [] k h lt earlier is = absurd (omega (arith, lt))
+first_at (o ∷ later) zero h lt earlier is = by o is
+  where
+    by : (o : Option Hindrance) → o ≡ Some h → first_of (o ∷ later) ≡ Some h
+    by (Some g) same = same
+    by None same = absurd cc
+first_at (o ∷ later) (suc k) h lt earlier is = by o (earlier 0 (omega arith)) (first_at later k h (omega (arith, lt)) (λ i below. earlier (suc i) (omega (arith, below))) is)
+  where
+    by : (o : Option Hindrance) → o ≡ None → first_of later ≡ Some h → first_of (o ∷ later) ≡ Some h
+    by None none rest = rest
+    by (Some g) none rest = absurd cc
+
+pub stopped_at : (limit : ℕ) (blobs : Blobs) (d : Design) (p : Playlist) (variant : ℕ) (h : Hindrance) → unmarkable d p ≡ None → variant < places d * symbols d
+    → ((earlier : ℕ) → earlier < variant → hindrance limit blobs d earlier ≡ None) → hindrance limit blobs d variant ≡ Some h → made limit blobs d p ≡ Err h
+unfolding made
+stopped_at limit blobs d p variant h markable lt earlier is =
+    let count : ℕ = places d * symbols d in
+    let found : List (Option Hindrance) = map (hindrance limit blobs d) (variants d) in
+    let long : length found ≡ count = length-map-range_with_len (hindrance limit blobs d) 0 count in
+    let at : (i : ℕ) → i < count → get_or found i None ≡ hindrance limit blobs d i = λ i below. get_or-map-range_with_len (hindrance limit blobs d) 0 count i i None below (omega arith) in
+    let first : first_of found ≡ Some h = first_at found variant h (omega (arith, lt, long)) (λ i below. at i (omega (arith, below, lt)) ∙ earlier i below) (at variant lt ∙ is) in
+    rw (markable, first) refl
+
+-- a twin is an earlier variant with the same digest
+pub record IsTwin (blobs : Blobs) (d : Design) (earlier later : ℕ) : Type 0 where
+  pub before : earlier < later
+  pub same : held_digest blobs d earlier ≡ held_digest blobs d later
+
+found_in : (p : ℕ → Bool) (a n x : ℕ) → find p (range_with_len a n) ≡ Some x → (x < a + n) × (p x ≡ true)
+found_in p a zero x is = absurd cc
+found_in p a (suc n) x is = by (p a) refl is (λ rest. found_in p (a + 1) n x rest)
+  where
+    by : (b : Bool) → p a ≡ b → cond b (Some a) (find p (range_with_len (a + 1) n)) ≡ Some x → (find p (range_with_len (a + 1) n) ≡ Some x → (x < a + 1 + n) × (p x ≡ true)) → (x < a + suc n) × (p x ≡ true)
+    by true e same later = let here : a ≡ x = cc in (omega (arith, here), subst (λ (y : ℕ). p y ≡ true) here e)
+    by false e same later = let rest = later same in (omega (arith, rest.0), rest.1)
+
+pub twin_is : (blobs : Blobs) (d : Design) (variant earlier : ℕ) → twin blobs d variant ≡ Some earlier → IsTwin blobs d earlier variant
+twin_is blobs d variant earlier is =
+    let at = found_in (λ e. bytes_eq (held_digest blobs d variant) (held_digest blobs d e)) 0 variant earlier is in
+    record { before = omega (arith, at.0); same = sym ((bytes_eq-Decides (held_digest blobs d variant) (held_digest blobs d earlier)).0 at.1) }

@@ -3,3 +3,4 @@ pub mod Variants
 pub mod Making
 pub mod Details
 pub mod Pair
+pub mod Film

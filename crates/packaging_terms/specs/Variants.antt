@@ -1,5 +1,5 @@
 -- The variants of a design in order: place by place, and at each place symbol by symbol. This project's own.
-use Rattle.std.specs.Prelude.{ℕ, ◌*◌, ◌/◌, ◌%◌, not, nat_lt, List, length, Option}
+use Rattle.std.specs.Prelude.{ℕ, ◌*◌, ◌/◌, ◌%◌, nat_le, List, length, Option}
 use Rattle.std.specs.List.{range_with_len, find}
 use Rattle.playlist_terms.specs.Playlists.{Playlist}
 use Rattle.title_terms.specs.Designs.{Design, places, symbols, variant_name}
@@ -20,4 +20,4 @@ blob_of d variant = variant_name d (place_in d variant) (symbol_in d variant)
 
 -- the first marked number that no segment of the list has
 abbrev pub unmarkable : Design → Playlist → Option ℕ
-unmarkable d p = find (λ segment. not (nat_lt segment (length p.segments))) d.marked
+unmarkable d p = find (λ segment. nat_le (length p.segments) segment) d.marked

@@ -6,6 +6,6 @@ mod laws;
 
 pub use fault::PackagingFault;
 pub use laws::{
-    licensed_texts_are_read, licensees_get_their_variants, made_titles_are_valid,
-    variants_have_their_own_names, worked_details, worked_examples,
+    first_hindrances, licensed_texts_are_read, licensees_get_their_variants, made_titles_are_valid,
+    variants_have_their_own_names, worked_details, worked_examples, worked_film,
 };
