@@ -11,8 +11,14 @@ use Rattle.title_terms.specs.Designs.{Design}
 use Rattle.title_terms.specs.DesignText.{design_of}
 use Rattle.title_terms.specs.Titles.{Title}
 use Rattle.title_terms.specs.TitleText.{title_of, title_text}
+use Rattle.playlist_terms.proofs.Allowed.{read_allowed}
+use Rattle.playlist_terms.proofs.Written.{written_is_read as playlist_again}
+use Rattle.title_terms.proofs.DesignValues.{design_is_valid}
+use Rattle.title_terms.proofs.Texts.{written_is_read, read_was_written}
+use Rattle.packaging_terms.proofs.Made.{made_valid}
+use Rattle.packaging_terms.proofs.Lists.{licensable, licensed_valid}
 use Rattle.packaging_terms.specs.declared.fault.PackagingFault.TheVariants.{BadDesign, BadPlaylist, BadTitle, Mismatch}
-use Rattle.packaging_terms.specs.Licensees.{fits, licensed_text}
+use Rattle.packaging_terms.specs.Licensees.{fits, licensed_list, licensed_text}
 use Rattle.packaging_terms.specs.Making.{Hindrance, made}
 use Rattle.outcome_terms.specs.declared.fault.Fault.TheVariants.{Unknown, Withdrawn, SameName}
 use Rattle.outcome_terms.specs.Reading.{found, blob, understood, given, blob_limit}
@@ -62,16 +68,23 @@ title_done tell blobs design source out text h =
     let d = took blobs (design_under tell design) _ (Exactly text) other.then in
     let p = took blobs (playlist_under tell source) _ (Exactly text) d.then in
     let t = took blobs (title_made tell d.value p.value) _ (Exactly text) p.then in
+    let design_blob = design_held tell blobs design d.value d.first in
+    let source_blob = playlist_held tell blobs source p.value p.first in
+    let is_made = was_made tell d.value (made blob_limit blobs d.value p.value) t.value (sym (title_given tell blobs d.value p.value) ∙ t.first) in
+    let valid = made_valid blob_limit blobs d.value p.value t.value (design_is_valid design_blob.bytes d.value design_blob.read) (read_allowed source_blob.bytes p.value source_blob.read) is_made in
+    let is_text = same_text (title_text t.value) text (was_given blobs (Exactly (title_text t.value)) (Exactly text) t.then) in
     record {
       d = d.value;
       p = p.value;
       t = t.value;
-      holds_design = design_held tell blobs design d.value d.first;
-      holds_playlist = playlist_held tell blobs source p.value p.first;
+      holds_design = design_blob;
+      holds_playlist = source_blob;
       not_design = differs out design both.0;
       not_source = differs out source both.1;
-      is_made = was_made tell d.value (made blob_limit blobs d.value p.value) t.value (sym (title_given tell blobs d.value p.value) ∙ t.first);
-      is_text = same_text (title_text t.value) text (was_given blobs (Exactly (title_text t.value)) (Exactly text) t.then);
+      is_made = is_made;
+      valid = valid;
+      is_text = is_text;
+      read_again = written_is_read text t.value valid is_text;
     }
 
 pub playlist_done : (tell : Telling) (blobs : Blobs) (title register name out text : List ℕ) → given blobs (package_ tell title register name out) ≡ Ok (Exactly text) → IsMadePlaylist blobs title register name out text
@@ -84,16 +97,20 @@ playlist_done tell blobs title register name out text h =
     let fit = met blobs (fits t.value e.value) (tell (Mismatch t.value.design.bits t.value.design.dimension e.value.bits e.value.dimension)) _ (Exactly text) e.then in
     let serial = took blobs (found (Unknown name) (serial_of (names_of e.value.licensees) name)) _ (Exactly text) fit.then in
     let active = met blobs (is_active e.value serial.value) (Withdrawn name) _ (Exactly text) serial.then in
+    let title_blob = title_held tell blobs title t.value t.first in
+    let valid = (read_was_written title_blob.bytes t.value title_blob.read).valid in
+    let is_text = same_text (licensed_text t.value e.value serial.value) text (was_given blobs (Exactly (licensed_text t.value e.value serial.value)) (Exactly text) active.then) in
     record {
       t = t.value;
       e = e.value;
       serial = serial.value;
-      holds_title = title_held tell blobs title t.value t.first;
+      holds_title = title_blob;
       holds_register = register_held blobs register e.value e.first;
       not_title = differs out title both.0;
       not_register = differs out register both.1;
       same_code = fit.so;
       enrolled = was_found blobs (Unknown name) (serial_of (names_of e.value.licensees) name) serial.value serial.first;
       active = active.so;
-      is_text = same_text (licensed_text t.value e.value serial.value) text (was_given blobs (Exactly (licensed_text t.value e.value serial.value)) (Exactly text) active.then);
+      is_text = is_text;
+      read_again = ap playlist_of is_text ∙ playlist_again (licensed_list t.value e.value serial.value) (licensed_valid t.value e.value serial.value (licensable t.value e.value valid fit.so));
     }

@@ -7,9 +7,9 @@ use Rattle.playlist_terms.specs.Playlists.{Playlist}
 use Rattle.playlist_terms.specs.Reading.{playlist_of}
 use Rattle.title_terms.specs.Designs.{Design}
 use Rattle.title_terms.specs.DesignText.{design_of}
-use Rattle.title_terms.specs.Titles.{Title}
+use Rattle.title_terms.specs.Titles.{Title, IsTitle}
 use Rattle.title_terms.specs.TitleText.{title_of, title_text}
-use Rattle.packaging_terms.specs.Licensees.{fits, licensed_text}
+use Rattle.packaging_terms.specs.Licensees.{fits, licensed_list, licensed_text}
 use Rattle.packaging_terms.specs.Making.{made}
 use Rattle.outcome_terms.specs.Reading.{blob_limit}
 use Rattle.outcome_terms.specs.Reports.{HoldsRegister}
@@ -42,7 +42,10 @@ pub record IsMadeTitle (blobs : Blobs) (design source out text : List ℕ) : Typ
   pub not_design : out ≢ design
   pub not_source : out ≢ source
   pub is_made : made blob_limit blobs d p ≡ Ok t
+  pub valid : IsTitle t
   pub is_text : text ≡ title_text t
+  -- and so it is read again
+  pub read_again : title_of text ≡ Ok t
 
 -- the text is what the licensee of the name gets of the title, who holds the licence still
 pub record IsMadePlaylist (blobs : Blobs) (title register name out text : List ℕ) : Type 0 where
@@ -57,3 +60,5 @@ pub record IsMadePlaylist (blobs : Blobs) (title register name out text : List �
   pub enrolled : serial_of (names_of e.licensees) name ≡ Some serial
   pub active : is_active e serial ≡ true
   pub is_text : text ≡ licensed_text t e serial
+  -- and so it is read as the list that the licensee gets
+  pub read_again : playlist_of text ≡ Ok (licensed_list t e serial)

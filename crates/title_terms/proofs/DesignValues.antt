@@ -4,11 +4,13 @@ use Rattle.std.specs.Prelude.{nat_lt}
 use Rattle.std.proofs.Math.Seq.{get_or-append_seam}
 use Rattle.std.proofs.lemmas.Bool.{and_parts, and_from, ltb-true, lt-ltb}
 use Rattle.std.proofs.lemmas.List.Elements.{All-push}
+use Rattle.toml.specs.Data.{Members}
 use Rattle.text_terms.specs.Names.{is_plain}
 use Rattle.title_terms.specs.declared.fault.DesignFault.{DesignFault}
 use Rattle.title_terms.specs.declared.fault.DesignFault.TheVariants.{BadName, BadM, BadK, BadBound, TooMuchWork, BadPrefix, BadSuffix, BadMarked, TooManyPlaces, TooWeak}
 use Rattle.title_terms.specs.Designs.{Design, IsDesign, are_bits, is_dimension, is_bound, is_light, is_affix, is_above, are_enough, have_room}
 use Rattle.title_terms.specs.DesignRules.{Proposal, proposal, ◌>>=◌, ◌>>◌, require, allowed, marks_behind, design_from}
+use Rattle.title_terms.specs.DesignText.{document, proposal_in, design_in, design_of}
 use Rattle.title_terms.proofs.MarkLines.{AreMarks, no_marks, rises_push, rises_above}
 
 -- ---- one rule behind the other
@@ -139,3 +141,15 @@ unfolding design_from
 accepted_again d valid =
     let marks : marks_behind [] (map Some d.marked) ≡ Ok d.marked = listed_again [] d.marked (record { below = valid.small; rise = valid.ascending }) in
     rw (valid.name, valid.bits, valid.dimension, valid.bound, valid.light, valid.prefix, valid.suffix, marks, valid.room, valid.enough) refl
+
+-- ---- what a document says
+
+said_by : (table : Option Members) (d : Design) → design_in table ≡ Ok d → IsDesign d
+said_by None d is = absurd cc
+said_by (Some table) d is =
+    let b = bound (proposal_in table) design_from d is in
+    (accepted b.x d b.next).valid
+
+pub design_is_valid : (bytes : List ℕ) (d : Design) → design_of bytes ≡ Ok d → IsDesign d
+unfolding design_of
+design_is_valid bytes d is = said_by (document bytes) d is

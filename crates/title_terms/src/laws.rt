@@ -157,7 +157,9 @@ pub fn first_faults()
     ensures places_before_weakness { designed (film_with_two 3 (codes "c = 8") 6 (codes "marked = [0, 1, 2, 3, 4, 5, 6, 7, 8, 9, 10, 11, 12, 13, 14, 15, 16]")) ≡ Err TooManyPlaces }
 {}
 
-/// Values make a design exactly where they are the values of that design, and the design is valid.
+/// Values make a design exactly where they are the values of that design, and the design is valid; so a document says none
+/// that is not.
 pub fn designs_keep_the_rules()
-    ensures { (p : Proposal) (d : Design) → (design_from p ≡ Ok d) ↔ (IsDesign d × (p ≡ proposal d)) }
+    ensures exact { (p : Proposal) (d : Design) → (design_from p ≡ Ok d) ↔ (IsDesign d × (p ≡ proposal d)) }
+    ensures read { (bytes : List ℕ) (d : Design) → design_of bytes ≡ Ok d → IsDesign d }
 {}
