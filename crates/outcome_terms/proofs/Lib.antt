@@ -10,3 +10,4 @@ pub mod AlongLaws
 pub mod TitleMaking
 pub mod PackagingHeadlines
 pub mod GivenParts
+pub mod PackagingNames

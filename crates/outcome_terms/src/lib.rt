@@ -10,7 +10,9 @@ mod status;
 
 pub use fault::Fault;
 pub use laws::{readings_compose, worked_examples};
-pub use packaging::{done_packaging, packages_end, readings_go_along, titles_are_made, titles_end};
+pub use packaging::{
+    done_packaging, packages_end, packaging_reads, readings_go_along, titles_are_made, titles_end,
+};
 pub use parameter_rule::ParameterRule;
 pub use refusal::Refusal;
 pub use status::Status;

@@ -1,6 +1,6 @@
 //! What is proved of titles and packages that are made over a map of blobs.
 
-ghost use Rattle.std.specs.Prelude.{◌≡◌, ◌+◌, ◌||◌, List, ℕ, [], ◌∷◌, take, slice_get, true, false, None, Some, Ok, Err};
+ghost use Rattle.std.specs.Prelude.{◌≡◌, ◌+◌, ◌||◌, List, ℕ, [], ◌∷◌, map, take, slice_get, true, false, None, Some, Ok, Err};
 ghost use Rattle.std.specs.Str.{bytes_eq};
 ghost use Rattle.shelf_terms.specs.Blobs.{Blobs};
 ghost use Rattle.register_terms.specs.Enrolment.{Enrolment, names_of, serial_of};
@@ -16,11 +16,12 @@ ghost use Rattle.title_terms.specs.Titles.{Title};
 ghost use Rattle.title_terms.specs.TitleText.{TitleFault, title_of, title_text};
 ghost use Rattle.packaging_terms.specs.declared.fault.PackagingFault.TheVariants.{BadDesign, BadPlaylist, BadTitle, Mismatch};
 ghost use Rattle.packaging_terms.specs.Licensees.{fits, licensed_text};
+ghost use Rattle.packaging_terms.specs.Variants.{variants, blob_of};
 ghost use Rattle.packaging_terms.specs.Making.{Hindrance, made};
 ghost use Rattle.outcome_terms.specs.declared.fault.Fault.TheVariants.{BadRegister, SameName, Unknown, Withdrawn};
 ghost use Rattle.outcome_terms.specs.declared.refusal.Refusal.{Refusal};
 ghost use Rattle.outcome_terms.specs.declared.refusal.Refusal.TheVariants.{Content};
-ghost use Rattle.outcome_terms.specs.Reading.{Reading, given, read_blob, blob_limit};
+ghost use Rattle.outcome_terms.specs.Reading.{Reading, given, names_read, read_blob, blob_limit};
 ghost use Rattle.outcome_terms.specs.Stores.{Follows, Store, Exactly};
 ghost use Rattle.outcome_terms.specs.Along.{along};
 ghost use Rattle.outcome_terms.specs.TitleCommand.{Telling, title_made, told_title, hindrance_refusal, title};
@@ -98,4 +99,14 @@ pub fn packages_end()
         → given blobs (packaged tell t e licensee) ≡ Err (Content (Withdrawn licensee)) }
     ensures done { (tell : Telling) (blobs : Blobs) (t : Title) (e : Enrolment) (licensee : List ℕ) (serial : ℕ) → fits t e ≡ true → serial_of (names_of e.licensees) licensee ≡ Some serial → is_active e serial ≡ true
         → given blobs (packaged tell t e licensee) ≡ Ok (Exactly (licensed_text t e serial)) }
+{}
+
+/// Which blobs a done `title` and a `package` with a good title and a good register read, in order.
+pub fn packaging_reads()
+    ensures title { (tell : Telling) (blobs : Blobs) (design source out bytes text : List ℕ) (d : Design) (p : Playlist) (t : Title) → (bytes_eq out design || bytes_eq out source) ≡ false
+        → read_blob blobs design ≡ Ok bytes → design_of bytes ≡ Ok d → read_blob blobs source ≡ Ok text → playlist_of text ≡ Ok p → given blobs (title_made tell d p) ≡ Ok t
+        → names_read blobs (title tell design source out) ≡ design ∷ source ∷ map (blob_of d) (variants d) }
+    ensures playlist { (tell : Telling) (blobs : Blobs) (name register licensee out bytes text : List ℕ) (t : Title) (e : Enrolment) → (bytes_eq out name || bytes_eq out register) ≡ false
+        → read_blob blobs name ≡ Ok bytes → title_of bytes ≡ Ok t → read_blob blobs register ≡ Ok text → register_of text ≡ Ok e
+        → names_read blobs (package_ tell name register licensee out) ≡ name ∷ register ∷ [] }
 {}
