@@ -38,7 +38,7 @@ use Rattle.outcome_terms.specs.Call.{HasEffect, TellsWhole}
 use Rattle.outcome_terms.specs.Reports.{HoldsRegister, HoldsWord, MakesRegister, EnrolsName, WithdrawsName, IsReport, TellsReport}
 use Rattle.outcome_terms.proofs.Givens.{took, met, not_found, was_given, was_understood, was_held}
 
-register_held : (blobs : Blobs) (name : List ℕ) (e : Enrolment) → given blobs (register_under name) ≡ Ok e → HoldsRegister blobs name e
+pub register_held : (blobs : Blobs) (name : List ℕ) (e : Enrolment) → given blobs (register_under name) ≡ Ok e → HoldsRegister blobs name e
 unfolding register_under
 register_held blobs name e h =
     let t = took blobs (blob name) (λ bytes. understood BadRegister (register_of bytes)) e h in
@@ -98,7 +98,7 @@ record Left (e : Enrolment) (name : List ℕ) (f : Enrolment) : Type 0 where
   active : is_active e serial ≡ true
   is : with_withdrawn e serial ≡ f
 
-was_found : {A : Type 0} (blobs : Blobs) (fault : Fault) (o : Option A) (x : A) → given blobs (found fault o) ≡ Ok x → o ≡ Some x
+pub was_found : {A : Type 0} (blobs : Blobs) (fault : Fault) (o : Option A) (x : A) → given blobs (found fault o) ≡ Ok x → o ≡ Some x
 unfolding given
 was_found blobs fault (Some y) x h = ap Some (was_given blobs y x h)
 was_found blobs fault None x h = cc
@@ -110,7 +110,7 @@ left blobs e name f h =
     let active = met blobs (is_active e first.value) (Withdrawn name) _ f first.then in
     record { serial = first.value; enrolled = was_found blobs (Unknown name) (serial_of (names_of e.licensees) name) first.value first.first; active = active.so; is = was_given blobs (with_withdrawn e first.value) f active.then }
 
-differs : (x y : List ℕ) → not (bytes_eq x y) ≡ true → x ≢ y
+pub differs : (x y : List ℕ) → not (bytes_eq x y) ≡ true → x ≢ y
 differs x y h same =
     let own : bytes_eq x y ≡ true = ap (λ z. bytes_eq x z) (sym same) ∙ bytes_eq-own x in
     let no : not true ≡ true = sym (ap not own) ∙ h in cc

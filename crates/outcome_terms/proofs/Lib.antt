@@ -7,3 +7,8 @@ pub mod Performing
 pub mod Calls
 pub mod Headlines
 pub mod Spending
+pub mod AlongLaws
+pub mod TitleMaking
+pub mod PackagingHeadlines
+pub mod GivenParts
+pub mod PackagingNames

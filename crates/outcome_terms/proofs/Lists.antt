@@ -27,11 +27,11 @@ parts (Read name next) f (went_on {bytes = bytes} r p) =
     let rest = parts (next bytes) f p in
     record { value = rest.value; between = rest.between; first = went_on r rest.first; then = rest.then }
 
-record Over {A : Type 0} (x y : A) (s t : Store) : Type 0 where
-  value : x ≡ y
-  same : s ≡ t
+pub record Over {A : Type 0} (x y : A) (s t : Store) : Type 0 where
+  pub value : x ≡ y
+  pub same : s ≡ t
 
-over : {A : Type 0} {x y : A} {s t : Store} → Follows (Give x) s t (Ok y) → Over x y s t
+pub over : {A : Type 0} {x y : A} {s t : Store} → Follows (Give x) s t (Ok y) → Over x y s t
 over gave = record { value = refl; same = refl }
 
 module _ {X A : Type 0} (step : X → Reading A) where
@@ -61,12 +61,12 @@ module _ {X A : Type 0} (step : X → Reading A) where
 
 -- ---- a loop over the indices of a list
 
-take_more : {X : Type 0} (xs : List X) (i : ℕ) (x : X) → slice_get xs i ≡ Some x → take (suc i) xs ≡ take i xs ++ x ∷ []
+pub take_more : {X : Type 0} (xs : List X) (i : ℕ) (x : X) → slice_get xs i ≡ Some x → take (suc i) xs ≡ take i xs ++ x ∷ []
 take_more [] i x h = absurd (omega (arith, slice_get_within [] i x h))
 take_more (y ∷ ys) zero x h = ap (λ z. z ∷ []) (let same : y ≡ x = cc in same)
 take_more (y ∷ ys) (suc i) x h = ap (λ zs. y ∷ zs) (take_more ys i x h)
 
-cut_at : {X : Type 0} (xs : List X) (i : ℕ) (x : X) → slice_get xs i ≡ Some x → take i xs ++ x ∷ drop (suc i) xs ≡ xs
+pub cut_at : {X : Type 0} (xs : List X) (i : ℕ) (x : X) → slice_get xs i ≡ Some x → take i xs ++ x ∷ drop (suc i) xs ≡ xs
 cut_at [] i x h = absurd (omega (arith, slice_get_within [] i x h))
 cut_at (y ∷ ys) zero x h = ap (λ z. z ∷ ys) (let same : x ≡ y = cc in same)
 cut_at (y ∷ ys) (suc i) x h = ap (λ zs. y ∷ zs) (cut_at ys i x h)

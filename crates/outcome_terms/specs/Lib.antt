@@ -15,3 +15,7 @@ pub mod Output
 pub mod Call
 pub mod Spending
 pub mod Reports
+pub mod Along
+pub mod TitleCommand
+pub mod PackageCommand
+pub mod PackagingReports

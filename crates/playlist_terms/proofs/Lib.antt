@@ -5,3 +5,4 @@ pub mod WrittenDurations
 pub mod WrittenLines
 pub mod Written
 pub mod Said
+pub mod Allowed

@@ -1,6 +1,6 @@
 -- What every line of a text keeps.
-use Rattle.std.proofs.Common.{◌≡◌, ◌∙◌, sym, ap, subst, ℕ, ◌+◌, ◌*◌, ◌^◌, ◌<◌, ◌≤◌, Bool, true, false, cond, not, ◌&&◌, eqb, nat_le, Option, Some, None, List, [], ◌∷◌, ◌++◌, length, get_or, codes, refl, arith, lit<}
-use Rattle.std.specs.List.{list_any, before_first, after_first}
+use Rattle.std.proofs.Common.{◌≡◌, ℕ, ◌^◌, ◌<◌, ◌≤◌, Bool, true, false, cond, not, ◌&&◌, eqb, nat_le, Option, Some, None, List, [], ◌∷◌, ◌++◌, length, get_or, codes, refl, arith, lit<}
+use Rattle.std.specs.List.{before_first, after_first}
 use Rattle.std.specs.Str.{bytes_eq, is_utf8, all_ascii_digits}
 use Rattle.std.specs.Str.Parse.{digits_value}
 use Rattle.std.proofs.lemmas.Bool.{leb-true}
@@ -14,7 +14,7 @@ use Rattle.playlist_terms.specs.TagValues.{are_digits, whole_number_of, as_versi
 use Rattle.playlist_terms.specs.Durations.{first_six, seconds_to_micros, micros_of_parts, duration_of}
 use Rattle.playlist_terms.specs.MediaLines.{MediaLine, NotText, Silent, Uri, Start, StartTag, Version, Target, Sequence, Duration, Kind, End, Cut, Key, Outside, said_by, media_tag, media_line, is_outside, is_no_key}
 use Rattle.playlist_terms.specs.Reading.{IsSaid}
-use Rattle.playlist_terms.proofs.Digits.{both, joins, texts, HasDigits, has_digits, six_are_digits}
+use Rattle.playlist_terms.proofs.Digits.{both, texts, has_digits, six_are_digits}
 
 -- a number that is kept under a test
 kept : (b : Bool) (v n : ℕ) → cond b (Some v) None ≡ Some n → (b ≡ true) × (v ≡ n)

@@ -58,3 +58,8 @@ pub fn cut_texts()
 pub fn texts_are_read()
     ensures { (p : Playlist) → IsPlaylist p → playlist_of (playlist_text p) ≡ Ok p }
 {}
+
+/// A list that is read is one that is allowed.
+pub fn read_lists_are_allowed()
+    ensures { (bytes : List ℕ) (p : Playlist) → playlist_of bytes ≡ Ok p → IsPlaylist p }
+{}

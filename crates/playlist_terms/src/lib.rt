@@ -8,4 +8,4 @@ mod fault;
 mod laws;
 
 pub use fault::{LineFault, PlaylistFault};
-pub use laws::{cut_texts, texts_are_read, worked_examples, worked_faults};
+pub use laws::{cut_texts, read_lists_are_allowed, texts_are_read, worked_examples, worked_faults};

@@ -1,6 +1,6 @@
 -- The text that a title is kept as, and the first line that breaks the form of any other text. Each valid title has one text.
 -- This project's own.
-use Rattle.std.specs.Prelude.{ℕ, ◌+◌, ◌-◌, ◌*◌, ◌^◌, Bool, true, false, ◌&&◌, ◌||◌, ◌==◌, not, nat_le, nat_lt, if◌then◌else◌, List, [], ◌∷◌, ◌++◌, length, map, take, drop, slice_index, codes, Option, Some, None, Result, Ok, Err}
+use Rattle.std.specs.Prelude.{ℕ, ◌+◌, ◌*◌, ◌^◌, Bool, true, false, ◌&&◌, ◌==◌, not, nat_le, nat_lt, if◌then◌else◌, List, [], ◌∷◌, ◌++◌, length, map, take, drop, codes, Option, Some, None, Result, Ok, Err}
 use Rattle.std.specs.Fmt.{decimal}
 use Rattle.std.specs.List.{flat_map, list_any, position}
 use Rattle.std.specs.Str.{bytes_eq, is_utf8}
@@ -14,8 +14,11 @@ use Rattle.form_terms.specs.Forms.{Form, ◌>>=◌, ◌>>◌, give, require, row
 use Rattle.playlist_terms.specs.Playlists.{PlaylistSegment, Playlist, is_segment_uri}
 use Rattle.title_terms.specs.declared.fault.TitleKind.{TitleKind}
 use Rattle.title_terms.specs.declared.fault.TitleKind.TheVariants as kinds
-use Rattle.title_terms.specs.Designs.{Design, are_bits, is_dimension, is_bound, is_light, is_affix, are_enough, have_room}
+use Rattle.title_terms.specs.Designs.{Design, are_bits, is_dimension, is_bound, is_light, is_affix, are_enough, have_room, is_above}
 use Rattle.title_terms.specs.Titles.{Title}
+
+abbrev pub TitleFault : Type 0
+TitleFault = LineFault TitleKind
 
 -- ---- the text
 
@@ -149,10 +152,6 @@ list_form = do
   segments ← rows count segment_form
   give (record { version = version; target = target; sequence = sequence; segments = segments })
 
--- above the one in front of it, if there is one
-abbrev pub is_above : List ℕ → ℕ → Bool
-is_above past segment = length past == 0 || nat_lt (slice_index past (length past - 1)) segment
-
 unfoldable pub mark_form : ℕ → List ℕ → TitleForm ℕ
 mark_form segments past = do
   segment ← row kinds_of_rows number_of
@@ -181,5 +180,5 @@ title_form = do
   give (record { design = record d { marked = marked }; list = list; digests = digests })
 
 -- the title that a text spells, or the first line that breaks the form and what is wrong with it
-unfoldable pub title_of : List ℕ → Result Title (LineFault TitleKind)
+unfoldable pub title_of : List ℕ → Result Title TitleFault
 title_of bytes = read_by title_form bytes

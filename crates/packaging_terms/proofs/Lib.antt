@@ -1,0 +1,4 @@
+pub mod Apart
+pub mod VariantNames
+pub mod Lists
+pub mod Made

@@ -1,0 +1,6 @@
+pub mod Licensees
+pub mod Variants
+pub mod Making
+pub mod Details
+pub mod Pair
+pub mod Film
