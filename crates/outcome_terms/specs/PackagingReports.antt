@@ -12,7 +12,6 @@ use Rattle.title_terms.specs.Titles.{Title, IsTitle}
 use Rattle.title_terms.specs.TitleText.{title_of, title_text}
 use Rattle.packaging_terms.specs.Licensees.{fits, licensed_list, licensed_text}
 use Rattle.packaging_terms.specs.Making.{made}
-use Rattle.outcome_terms.specs.Reading.{BLOB_LIMIT}
 use Rattle.outcome_terms.specs.Reports.{HoldsRegister}
 
 -- the blob of this name is a document of this design

@@ -28,6 +28,8 @@ ghost use Rattle.outcome_terms.specs.TitleCommand.{Telling, title_made, told_tit
 ghost use Rattle.outcome_terms.specs.PackageCommand.{packaged, package_};
 ghost use Rattle.outcome_terms.specs.PackagingReports.{IsMadeTitle, IsMadePlaylist};
 
+use shelf_terms::BLOB_LIMIT;
+
 /// A reading along a list is followed item by item, and the first item that is refused ends it.
 pub fn readings_go_along()
     ensures goes_on { (step : List (List ℕ) → ℕ → Reading (List (List ℕ))) (made so_far more : List (List ℕ)) (xs : List ℕ) (i x : ℕ) (s t u : Store)
