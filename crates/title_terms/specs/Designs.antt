@@ -1,6 +1,6 @@
 -- What a design is: the code that the marks belong to, how variants are named, and which segments are marked.
 -- This project's own.
-use Rattle.std.specs.Prelude.{◌≡◌, ℕ, ◌+◌, ◌-◌, ◌*◌, ◌^◌, ◌<◌, Bool, true, ◌&&◌, ◌||◌, ◌==◌, nat_le, nat_lt, List, [], ◌∷◌, ◌++◌, length, codes, All}
+use Rattle.std.specs.Prelude.{◌≡◌, ℕ, ◌+◌, ◌-◌, ◌*◌, ◌^◌, ◌<◌, Bool, true, ◌&&◌, ◌||◌, ◌==◌, nat_le, nat_lt, List, [], ◌∷◌, ◌++◌, length, codes, slice_index, All}
 use Rattle.std.specs.Fmt.{decimal}
 use Rattle.std.specs.List.{list_all}
 use Rattle.std.specs.List.Sorted.{IsStrictlyIncreasing}
@@ -55,6 +55,10 @@ are_enough k c n = nat_lt (c * c * (k - 1)) n
 -- each symbol stands at one place at most
 abbrev pub have_room : ℕ → ℕ → Bool
 have_room m n = nat_le n (2 ^ m)
+
+-- above the one in front of it, if there is one
+abbrev pub is_above : List ℕ → ℕ → Bool
+is_above past segment = length past == 0 || nat_lt (slice_index past (length past - 1)) segment
 
 pub record IsDesign (d : Design) : Type 0 where
   pub name : is_plain d.name ≡ true

@@ -1,3 +1,5 @@
 pub mod Designs
+pub mod DesignRules
+pub mod DesignText
 pub mod Titles
 pub mod TitleText

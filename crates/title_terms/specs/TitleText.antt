@@ -14,7 +14,7 @@ use Rattle.form_terms.specs.Forms.{Form, ◌>>=◌, ◌>>◌, give, require, row
 use Rattle.playlist_terms.specs.Playlists.{PlaylistSegment, Playlist, is_segment_uri}
 use Rattle.title_terms.specs.declared.fault.TitleKind.{TitleKind}
 use Rattle.title_terms.specs.declared.fault.TitleKind.TheVariants as kinds
-use Rattle.title_terms.specs.Designs.{Design, are_bits, is_dimension, is_bound, is_light, is_affix, are_enough, have_room}
+use Rattle.title_terms.specs.Designs.{Design, are_bits, is_dimension, is_bound, is_light, is_affix, are_enough, have_room, is_above}
 use Rattle.title_terms.specs.Titles.{Title}
 
 -- ---- the text
@@ -148,10 +148,6 @@ list_form = do
   count ← number_line (codes "segments ") (λ n. nat_le n 100000)
   segments ← rows count segment_form
   give (record { version = version; target = target; sequence = sequence; segments = segments })
-
--- above the one in front of it, if there is one
-abbrev pub is_above : List ℕ → ℕ → Bool
-is_above past segment = length past == 0 || nat_lt (slice_index past (length past - 1)) segment
 
 unfoldable pub mark_form : ℕ → List ℕ → TitleForm ℕ
 mark_form segments past = do

@@ -1,9 +1,10 @@
 //! The laws of designs and titles: each is the contract of a function that does nothing.
 
-ghost use Rattle.std.specs.Prelude.{◌≡◌, true, false, [], ◌∷◌, ◌++◌, codes, Some, None, Err};
+ghost use Rattle.std.specs.Prelude.{◌↔◌, ◌≡◌, ℕ, true, false, List, [], ◌∷◌, ◌++◌, codes, Some, None, Ok, Err};
 ghost use Rattle.form_terms.specs.Forms.{fault};
 ghost use Rattle.title_terms.specs.Designs.{variant_name, is_affix, are_enough, have_room, is_light};
-ghost use Rattle.title_terms.specs.TitleText.{title_of, segment_said, segment_text};
+ghost use Rattle.title_terms.specs.Titles.{Title, IsTitle};
+ghost use Rattle.title_terms.specs.TitleText.{title_of, title_text, segment_said, segment_text};
 ghost use Rattle.title_terms.specs.declared.fault.TitleKind.TheVariants as kinds;
 
 /// Names of variants and lines of titles, worked out by the definitions.
@@ -31,4 +32,11 @@ pub fn worked_faults()
     ensures too_few { title_of (codes "title 1\nname pair\nm 4\nk 2\nc 1\nprefix v/\nsuffix .ts\nversion 3\ntarget 6\nsequence 0\nsegments 1\n0 6000000 s0.ts\nmarked 1\n") ≡ Err (fault 13 kinds.Rule) }
     ensures past_the_segments { title_of (codes "title 1\nname pair\nm 4\nk 2\nc 1\nprefix v/\nsuffix .ts\nversion 3\ntarget 6\nsequence 0\nsegments 1\n0 6000000 s0.ts\nmarked 2\n0\n1\n") ≡ Err (fault 15 kinds.Rule) }
     ensures not_above { title_of (codes "title 1\nname pair\nm 4\nk 2\nc 1\nprefix v/\nsuffix .ts\nversion 3\ntarget 6\nsequence 0\nsegments 1\n0 6000000 s0.ts\nmarked 2\n0\n0\n") ≡ Err (fault 15 kinds.Rule) }
+{}
+
+/// A text is read as a title exactly where it is the text of that title, and the title is valid.
+///
+/// So what is written is read again as itself, and no text is that of two titles.
+pub fn texts_are_titles()
+    ensures { (bytes : List ℕ) (t : Title) → (title_of bytes ≡ Ok t) ↔ (IsTitle t × (bytes ≡ title_text t)) }
 {}

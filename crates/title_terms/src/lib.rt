@@ -1,12 +1,12 @@
 //! What a design and a title are, the text that a title is kept as, and the laws of both.
 //!
 //! A title is a film that is marked: which segments are, how their variants are named, and the digest of every variant.
-//! `specs/Designs` and `specs/Titles` say which are valid, `specs/TitleText` what the text of a title is and which fault any
-//! other text has.
+//! `specs/Designs` and `specs/Titles` say which are valid, `specs/DesignRules` and `specs/DesignText` how a design is read
+//! and which fault comes first, `specs/TitleText` what the text of a title is and which fault any other text has.
 #![tactic(auto)]
 
 mod fault;
 mod laws;
 
-pub use fault::{TitleFault, TitleKind};
-pub use laws::{worked_examples, worked_faults};
+pub use fault::{DesignFault, Key, TitleFault, TitleKind};
+pub use laws::{texts_are_titles, worked_examples, worked_faults};
