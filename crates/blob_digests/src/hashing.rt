@@ -15,11 +15,7 @@ use std::alloc::Global;
 
 /// The SHA-256 of the blob of the name, if it has at most `BLOB_LIMIT` bytes. Each part is hashed when it comes, and none is
 /// kept.
-pub fn digest_of<S: Shelf>(
-    alloc: Global,
-    shelf: &mut S,
-    name: &str,
-) -> Result<Digest, FetchError>
+pub fn digest_of<S: Shelf>(alloc: Global, shelf: &mut S, name: &str) -> Result<Digest, FetchError>
     requires name { IsTrue (is_name name.now) }
     // Where the blobs are told, which digest it is, or why there is none.
     ensures digest { DigestGives (S.holds shelf.old) name.now result }

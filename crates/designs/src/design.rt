@@ -1,7 +1,7 @@
 //! A design in memory.
 
 ghost use Rattle.std.specs.Prelude.{◌≡◌, ◌≤◌, ◌<◌, ◌++◌, IfOk, Some, length, slice_get};
-ghost use Rattle.title_terms.specs.Designs.{IsDesign, places, variant_name};
+ghost use Rattle.title_terms.specs.Designs.{IsDesign, places, symbols, variant_name};
 ghost use Rattle.title_terms.specs.DesignText.{design_of};
 ghost use Rattle.title_terms.specs.DesignRules.{design_from};
 ghost use Rattle.designs.specs.Answers.{Gives, of_numbers};
@@ -107,6 +107,15 @@ impl Design {
         self.bits
     }
 
+    /// How many symbols there are, 16 to 256.
+    pub fn symbols(&self) -> u32
+        ensures number { result ≡ symbols self.now }
+        ensures low { 16 ≤ result }
+        ensures high { result ≤ 256 }
+    {
+        1 << self.bits
+    }
+
     /// How many symbols a message has, 2 to 13.
     pub fn dimension(&self) -> u32
         ensures value { result ≡ self.now.dimension }
@@ -144,7 +153,8 @@ impl Design {
 
     /// The numbers of the marked segments, by place.
     pub fn marks(&self) -> &[u32]
-        ensures { result.now ≡ self.now.marked }
+        ensures numbers { result.now ≡ self.now.marked }
+        ensures few { length result.now ≤ 256 }
     {
         self.marked.as_slice()
     }

@@ -6,7 +6,10 @@ ghost use Rattle.designs.specs.Answers.{Gives, GivesMarks, proposal_of, next_mar
 
 use crate::design::Design;
 use crate::errors::DesignError;
-use crate::rules::{allowed_bits, allowed_bound, allowed_dimension, are_enough, have_room, is_above, is_affix, is_light};
+use crate::rules::{
+    allowed_bits, allowed_bound, allowed_dimension, are_enough, have_room, is_above, is_affix,
+    is_light,
+};
 use lists::Text;
 use std::alloc::{AllocError, Global};
 use texts::is_plain;

@@ -9,8 +9,6 @@ mod errors;
 mod judging;
 mod rules;
 
-
-
 pub use design::Design;
 pub use errors::DesignError;
 pub use title_terms::{DesignFault, Key};

@@ -82,9 +82,11 @@ pub(crate) fn is_affix(text: &str) -> bool
 fn all_in_affixes(bytes: &[u8]) -> bool
     ensures { result ≡ list_all is_affix_character bytes.now }
 {
-    bytes
-        .iter()
-        .all(|b| b.is_ascii_alphanumeric() || *b == b'.' || *b == b'_' || *b == b'-' || *b == b'/')
+    bytes.iter().all(|b| b.is_ascii_alphanumeric()
+        || *b == b'.'
+        || *b == b'_'
+        || *b == b'-'
+        || *b == b'/')
 }
 
 /// Whether the number is above the last of these, if there is one.
