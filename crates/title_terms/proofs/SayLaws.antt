@@ -1,17 +1,25 @@
 -- What single lines of a title say, and that they say it again.
-use Rattle.std.proofs.Common.{◌≡◌, ◌∙◌, sym, ap, subst, ℕ, suc, ◌+◌, ◌^◌, ◌<◌, ◌≤◌, Bool, true, false, cond, eqb, nat_le, Option, Some, None, Result, Ok, Err, List, [], ◌∷◌, ◌++◌, length, length-append, get_or, take, drop, codes, refl, arith}
+use Rattle.std.proofs.Common.{◌≡◌, ◌≢◌, ◌∙◌, sym, ap, subst, ℕ, suc, ◌+◌, ◌*◌, ◌^◌, ◌<◌, Bool, true, false, cond, not, eqb, Option, Some, None, Result, Ok, Err, List, ◌∷◌, ◌++◌, length, length-append, append_assoc, get_or, take, drop, codes, refl, arith}
 use Rattle.std.specs.Prelude.{nat_lt}
 use Rattle.std.specs.Fmt.{decimal}
-use Rattle.std.specs.List.{list_all, position, position_or_len, before_first, after_first}
+use Rattle.std.specs.List.{All, list_all, position, position_or_len, before_first, after_first}
 use Rattle.std.specs.Str.{bytes_eq, is_utf8}
-use Rattle.std.proofs.lemmas.Bool.{eqb-true, ltb-true}
-use Rattle.std.proofs.lemmas.List.Sums.{split_at_first, passes_at_first}
+use Rattle.std.proofs.Math.ListN.{get_or-append}
+use Rattle.std.proofs.Math.Seq.{get_or-append_seam}
+use Rattle.std.proofs.lemmas.Bool.{eqb-true, eq-eqb, ne_eqb, ltb-true, lt-ltb, false≢true}
+use Rattle.std.proofs.lemmas.Fmt.{decimal_is_IsNumeral_wide}
+use Rattle.std.proofs.lemmas.List.{take_at, drop_at}
+use Rattle.std.proofs.lemmas.List.Elements.{All-from_get_or, All-weaker}
+use Rattle.std.proofs.lemmas.List.Sums.{AllPass-from_list_all, split_at_first, passes_at_first, position_or_len_is}
+use Rattle.std.proofs.lemmas.Str.Parse.{digit_at}
 use Rattle.text_terms.specs.Numbers.{number_of}
-use Rattle.text_terms.proofs.NumberLaws.{spelling_of}
+use Rattle.text_terms.proofs.NumberLaws.{spelling_of, number_of-decimal}
 use Rattle.hex.specs.Hex.{encode_lower, decode_sized}
+use Rattle.hex.proofs.HexLemmas.{decode_of-ok, decode_sized-ok, decode_sized-twice, decode_sized-encode_lower}
 use Rattle.form_terms.specs.TextLines.{after_word}
 use Rattle.form_terms.proofs.LineLaws.{same_bytes, bytes_eq-own, after_word-is, after_word-line}
 use Rattle.playlist_terms.specs.Playlists.{PlaylistSegment}
+use Rattle.title_terms.specs.Titles.{IsDigest}
 use Rattle.title_terms.specs.TitleText.{exactly, if_text, text_after, parted_at, parted, cut_text, cut_said, segment_text, segment_of_parts, timed_said, cut_and_timed, segment_said, spelled_so, digest_said}
 
 -- what is kept under a test
@@ -120,6 +128,43 @@ pub segment_is : (text : List ℕ) (s : PlaylistSegment) → segment_said text �
 unfolding segment_said
 segment_is text s is = by_flag text (parted text) s refl is
 
+-- a text without space in front of a space is found again
+pub parted_again : (front back : List ℕ) → All (λ b. b ≢ 32) front → parted (front ++ (codes " " ++ back)) ≡ Some (front, back)
+parted_again front back unspaced =
+    let text : List ℕ = front ++ (codes " " ++ back) in
+    let p : ℕ → Bool = λ b. eqb b 32 in
+    let long : length text ≡ length front + suc (length back) = length-append front (codes " " ++ back) in
+    let earlier : (k : ℕ) → k < length front → p (get_or text k 0) ≡ false = λ k lt. ap p (get_or-append front (codes " " ++ back) 0 k lt) ∙ ne_eqb (get_or front k 0) 32 (unspaced k 0 lt) in
+    let first : position_or_len p text ≡ length front = position_or_len_is p text (length front) 0 (omega (arith, long)) earlier (λ _. ap p (get_or-append_seam front 32 back 0)) in
+    let found : position p text ≡ Some (length front) = rw (first, lt-ltb (length front) (length text) (omega (arith, long))) refl in
+    let behind : drop (length front + 1) text ≡ back =
+    ap (drop (length front + 1)) (sym (append_assoc front (codes " ") back)) ∙ drop_at (front ++ codes " ") back (length front + 1) (length-append front (codes " ")) in
+    ap (parted_at text) found ∙ (λ i. Some (take_at front (codes " " ++ back) (length front) refl i, behind i))
+
+cut_again : (cut : Bool) → cut_said (cut_text cut) ≡ Some cut
+cut_again true = refl
+cut_again false = refl
+
+unspaced_from : (text : List ℕ) → list_all (λ b. not (eqb b 32)) text ≡ true → All (λ b. b ≢ 32) text
+unspaced_from text passes = All-weaker (λ b. not (eqb b 32) ≡ true) (λ b. b ≢ 32) (λ b is same. false≢true (sym (ap not (eq-eqb b 32 same)) ∙ is)) text (AllPass-from_list_all (λ b. not (eqb b 32)) text passes)
+
+cut_unspaced : (cut : Bool) → All (λ b. b ≢ 32) (cut_text cut)
+cut_unspaced true = unspaced_from (codes "1") refl
+cut_unspaced false = unspaced_from (codes "0") refl
+
+decimal_unspaced : (n : ℕ) → n < 2 ^ 128 → All (λ b. b ≢ 32) (decimal n)
+decimal_unspaced n small =
+    let numeral = decimal_is_IsNumeral_wide n (omega arith) in
+    All-from_get_or (λ b. b ≢ 32) (decimal n) 0 (λ i lt e. omega (arith, digit_at (decimal n) i numeral.0.1 lt, e))
+
+-- the text of a segment says it
+pub segment_again : (s : PlaylistSegment) → s.micros < 2 ^ 128 → is_utf8 s.uri ≡ true → segment_said (segment_text s) ≡ Some s
+unfolding segment_said
+segment_again s small utf8 =
+    ap cut_and_timed (parted_again (cut_text s.cut) (decimal s.micros ++ (codes " " ++ s.uri)) (cut_unspaced s.cut))
+    ∙ ap (timed_said (cut_text s.cut)) (parted_again (decimal s.micros) s.uri (decimal_unspaced s.micros small))
+    ∙ rw (cut_again s.cut, number_of-decimal s.micros small, utf8) refl
+
 -- ---- digests
 
 spelled : {E : Type 0} (text digest : List ℕ) (r : Result (List ℕ) E) → spelled_so text r ≡ Some digest → (r ≡ Ok digest) × (text ≡ encode_lower digest)
@@ -132,3 +177,18 @@ spelled text digest (Ok found) is =
 pub digest_is : (text digest : List ℕ) → digest_said text ≡ Some digest → text ≡ encode_lower digest
 unfolding digest_said
 digest_is text digest is = (spelled text digest (decode_sized text 32) is).1
+
+-- what a line says is 32 bytes
+pub digest_valid : (text digest : List ℕ) → digest_said text ≡ Some digest → IsDigest digest
+unfolding digest_said
+digest_valid text digest is =
+    let sized = (spelled text digest (decode_sized text 32) is).0 in
+    let long : length text ≡ 2 * 32 = decode_sized-ok text 32 digest sized in
+    let ok = decode_of-ok text digest (sym (decode_sized-twice text 32 long) ∙ sized) in
+    record { long = omega (arith, long, ok.2); bytes = ok.3 }
+
+-- the digits of a digest say it
+pub digest_again : (digest : List ℕ) → IsDigest digest → digest_said (encode_lower digest) ≡ Some digest
+unfolding digest_said
+digest_again digest valid =
+    ap (spelled_so (encode_lower digest)) (decode_sized-encode_lower digest 32 valid.long valid.bytes) ∙ rw (bytes_eq-own (encode_lower digest)) refl

@@ -1,5 +1,5 @@
 -- Which values make a design, and the first rule that other values break. This project's own.
-use Rattle.std.specs.Prelude.{ℕ, Bool, true, false, ◌&&◌, nat_lt, if◌then◌else◌, List, [], ◌∷◌, ◌++◌, length, map, Option, Some, None, Result, Ok, Err}
+use Rattle.std.specs.Prelude.{ℕ, Bool, ◌&&◌, nat_lt, if◌then◌else◌, List, [], ◌∷◌, ◌++◌, length, map, Option, Some, None, Result, Ok, Err}
 use Rattle.text_terms.specs.Names.{is_plain}
 use Rattle.title_terms.specs.declared.fault.DesignFault.{DesignFault}
 use Rattle.title_terms.specs.declared.fault.DesignFault.TheVariants.{BadName, BadM, BadK, BadBound, TooMuchWork, BadPrefix, BadSuffix, BadMarked, TooManyPlaces, TooWeak}

@@ -3,3 +3,5 @@ pub mod DesignRules
 pub mod DesignText
 pub mod Titles
 pub mod TitleText
+pub mod Pair
+pub mod Film

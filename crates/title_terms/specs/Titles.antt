@@ -1,5 +1,5 @@
 -- What a title is: a design, a media list, and a digest for each place and symbol. This project's own.
-use Rattle.std.specs.Prelude.{◌≡◌, ◌≢◌, ℕ, ◌+◌, ◌*◌, ◌<◌, nat_lt, if◌then◌else◌, List, length, slice_get, Option, Some, None, All}
+use Rattle.std.specs.Prelude.{◌≡◌, ◌≢◌, ℕ, ◌+◌, ◌*◌, ◌<◌, nat_lt, if◌then◌else◌, List, length, slice_get, Option, None, All}
 use Rattle.std.specs.List.{AllPairs}
 use Rattle.hex.specs.Hex.{IsBytes}
 use Rattle.playlist_terms.specs.Playlists.{Playlist, IsPlaylist}

@@ -9,4 +9,8 @@ mod fault;
 mod laws;
 
 pub use fault::{DesignFault, Key, TitleFault, TitleKind};
-pub use laws::{texts_are_titles, worked_examples, worked_faults};
+pub use laws::{
+    cut_texts, designs_keep_the_rules, faults_of_digests, faults_of_documents, faults_of_each_line,
+    faults_of_values, first_faults, texts_are_titles, worked_designs, worked_examples,
+    worked_faults, worked_title,
+};
