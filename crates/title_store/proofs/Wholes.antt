@@ -1,14 +1,13 @@
 -- Full cells, and the digests that they hold.
-use Rattle.std.proofs.Common.{◌≡◌, ◌≢◌, ℕ, zero, suc, ◌+◌, ◌*◌, ◌/◌, ◌%◌, ◌<◌, ◌≤◌, Bool, true, false, ◌&&◌, cond, List, [], ◌∷◌, length, get_or, map, replicate, Option, Some, None, is_some, refl, sym, ap, ◌∙◌, subst, arith}
-use Rattle.std.specs.Prelude.{slice_get, nat_lt, nat_le, slice_index_or}
+use Rattle.std.proofs.Common.{◌≡◌, ◌≢◌, ℕ, zero, suc, ◌+◌, ◌*◌, ◌/◌, ◌%◌, ◌<◌, Bool, true, false, cond, List, [], ◌∷◌, length, get_or, Option, Some, None, is_some, refl, sym, ap, ◌∙◌, subst, arith}
+use Rattle.std.specs.Prelude.{slice_get, nat_lt, nat_le}
 use Rattle.std.specs.List.{All, AllPairs, find, list_all}
-use Rattle.std.specs.Option.{unwrap_or}
 use Rattle.std.proofs.Math.Nat.{mod-lt}
-use Rattle.std.proofs.lemmas.Bool.{false≢true, ltb-true, lt-ltb, leb-false}
+use Rattle.std.proofs.lemmas.Bool.{false≢true, lt-ltb, leb-false}
 use Rattle.std.proofs.lemmas.Nat.{div-add-mod'}
 use Rattle.std.proofs.lemmas.Option.{slice_get-get_or}
-use Rattle.title_terms.specs.Designs.{places, symbols}
-use Rattle.title_terms.specs.Titles.{Title, IsTitle, IsDigest, cell_of, digest_at}
+use Rattle.title_terms.specs.Designs.{symbols}
+use Rattle.title_terms.specs.Titles.{IsDigest, cell_of, digest_at}
 use Rattle.title_store.specs.Cells.{held_at, HoldsDigest, IsAbsent, AreDistinct, filled}
 use Rattle.title_store.specs.Builds.{Build, IsBuild, IsWhole, is_full, title_by, added}
 

@@ -1,5 +1,5 @@
 -- A title that is being built, and which answer each call gives. Want of memory is the one answer that is always free.
-use Rattle.std.specs.Prelude.{◌≡◌, ℕ, ◌+◌, ◌*◌, ◌<◌, ◌^◌, Bool, true, nat_le, nat_lt, is_some, List, length, slice_set, replicate, All, Option, Some, None, Result, Ok, Err, if◌then◌else◌, ⊤}
+use Rattle.std.specs.Prelude.{◌≡◌, ℕ, ◌*◌, ◌<◌, Bool, true, nat_le, nat_lt, is_some, List, length, slice_set, replicate, All, Option, Some, None, Result, Ok, Err, if◌then◌else◌}
 use Rattle.std.specs.List.{find, list_all}
 use Rattle.playlist_terms.specs.Playlists.{Playlist, IsPlaylist}
 use Rattle.title_terms.specs.Designs.{Design, IsDesign, places, symbols}

@@ -1,5 +1,5 @@
 -- Cells that hold a digest or nothing, and an index of them.
-use Rattle.std.specs.Prelude.{◌≡◌, ℕ, List, [], map, slice_index_or, Bool, true, is_some, Option, Some, None}
+use Rattle.std.specs.Prelude.{◌≡◌, ℕ, List, [], map, slice_index_or, true, is_some, Option, Some, None}
 use Rattle.std.specs.Option.{unwrap_or}
 use Rattle.std.specs.Map.{lookup}
 use Rattle.std.specs.Str.{bytes_eq}

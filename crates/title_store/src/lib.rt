@@ -7,6 +7,7 @@ mod build;
 mod errors;
 mod table;
 mod title;
+mod writing;
 
 pub use blob_digests::{BLOB_LIMIT, Digest, digest_of};
 pub use build::TitleBuilder;

@@ -1,4 +1,4 @@
-use Rattle.std.proofs.Common.{◌≡◌, ◌∙◌, sym, ap, length, None, subst}
+use Rattle.std.proofs.Common.{◌∙◌, sym, ap, length, None, subst}
 use Rattle.title_terms.specs.Designs.{IsDesign}
 use Rattle.playlist_terms.specs.Playlists.{IsPlaylist}
 use Rattle.title_store.proofs.Wholes.{none_beyond, none_from}

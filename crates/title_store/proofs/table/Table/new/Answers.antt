@@ -1,4 +1,4 @@
-use Rattle.std.proofs.Common.{◌≡◌, ℕ, List, Option, None, replicate, rules, sym, subst}
+use Rattle.std.proofs.Common.{◌≡◌, ℕ, List, None, replicate, rules, sym, subst}
 use Rattle.title_store.specs.Cells.{IsTable}
 use Rattle.title_store.proofs.Indexed.{table_new}
 use Rattle.title_store.proofs.table.Table.new.Goals as goal

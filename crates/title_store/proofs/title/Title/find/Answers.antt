@@ -1,4 +1,4 @@
-use Rattle.std.proofs.Common.{◌≡◌, ◌∙◌, ◌/◌, ◌%◌, ◌<◌, ℕ, Option, Some, sym, subst, arith}
+use Rattle.std.proofs.Common.{◌≡◌, ◌∙◌, ◌/◌, ◌%◌, ◌<◌, ℕ, Some, sym, subst, arith}
 use Rattle.title_terms.specs.Titles.{Title, digest_at}
 use Rattle.title_store.specs.Builds.{Build}
 use Rattle.title_store.proofs.Wholes.{digest_is, not_added, added_at}
