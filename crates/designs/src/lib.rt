@@ -11,4 +11,5 @@ mod rules;
 
 pub use design::Design;
 pub use errors::DesignError;
+pub use rules::{are_enough, have_room, is_above, is_affix, is_light};
 pub use title_terms::{DesignFault, Key};

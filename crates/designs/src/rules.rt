@@ -43,7 +43,7 @@ pub(crate) fn allowed_bound(number: Option<u64>) -> Result<u32, DesignFault>
 }
 
 /// Whether tracing a coalition of the bound is not too much work.
-pub(crate) fn is_light(dimension: u32, bound: u32) -> bool
+pub fn is_light(dimension: u32, bound: u32) -> bool
     requires low { 2 ≤ dimension }
     requires high { dimension ≤ 13 }
     requires bound { bound ≤ 8 }
@@ -53,7 +53,7 @@ pub(crate) fn is_light(dimension: u32, bound: u32) -> bool
 }
 
 /// Whether so many places tell each member of a coalition from everyone else.
-pub(crate) fn are_enough(dimension: u32, bound: u32, places: usize) -> bool
+pub fn are_enough(dimension: u32, bound: u32, places: usize) -> bool
     requires low { 2 ≤ dimension }
     requires high { dimension ≤ 13 }
     requires bound { bound ≤ 8 }
@@ -63,7 +63,7 @@ pub(crate) fn are_enough(dimension: u32, bound: u32, places: usize) -> bool
 }
 
 /// Whether each of so many places has a symbol of its own.
-pub(crate) fn have_room(bits: u32, places: usize) -> bool
+pub fn have_room(bits: u32, places: usize) -> bool
     requires few { bits ≤ 8 }
     ensures { result ≡ have_room bits places }
 {
@@ -71,7 +71,7 @@ pub(crate) fn have_room(bits: u32, places: usize) -> bool
 }
 
 /// Whether the text may stand in front of the numbers of a variant's name, or behind them.
-pub(crate) fn is_affix(text: &str) -> bool
+pub fn is_affix(text: &str) -> bool
     ensures { result ≡ is_affix text.now }
 {
     let bytes = text.as_bytes();
@@ -90,7 +90,7 @@ fn all_in_affixes(bytes: &[u8]) -> bool
 }
 
 /// Whether the number is above the last of these, if there is one.
-pub(crate) fn is_above(past: &[u32], segment: u64) -> bool
+pub fn is_above(past: &[u32], segment: u64) -> bool
     ensures { result ≡ is_above past.now segment }
 {
     match past.last() {

@@ -1,3 +1,6 @@
 pub mod Indexed
 pub mod Wholes
 pub mod WrittenLines
+pub mod Texts
+pub mod RowByRow
+pub mod Filling

@@ -1,5 +1,6 @@
 -- Cells that hold a digest or nothing, and an index of them.
-use Rattle.std.specs.Prelude.{◌≡◌, ℕ, List, [], map, slice_index_or, true, is_some, Option, Some, None}
+use Rattle.std.specs.List.{list_all}
+use Rattle.std.specs.Prelude.{◌≡◌, ◌≤◌, ℕ, List, [], length, take, map, slice_index_or, true, is_some, Option, Some, None}
 use Rattle.std.specs.Option.{unwrap_or}
 use Rattle.std.specs.Map.{lookup}
 use Rattle.std.specs.Str.{bytes_eq}
@@ -39,3 +40,9 @@ IsRefusal cells i digest errors.Memory = Unit {0}
 -- the digests of full cells
 abbrev pub filled : List (Option (List ℕ)) → List (List ℕ)
 filled cells = map (λ cell. unwrap_or cell []) cells
+
+-- so many cells from the first one on are full, and the others are empty
+pub record IsFilled (cells : List (Option (List ℕ))) (i count : ℕ) : Type 0 where
+  pub long : length cells ≡ count
+  pub front : list_all is_some (take i cells) ≡ true
+  pub rest : (k : ℕ) → i ≤ k → held_at cells k ≡ None

@@ -2,8 +2,11 @@
 
 ghost use Rattle.std.specs.Prelude.{◌≡◌};
 ghost use Rattle.title_store.specs.declared.errors.BuildError.TheVariants as build_errors;
+ghost use Rattle.title_store.specs.declared.errors.TitleReadError.TheVariants as read_errors;
 
 use lists::Memory;
+use std::alloc::{AllocError, AllocFailed};
+use title_terms::TitleFault;
 
 /// Why no title is begun.
 #[derive(Clone, Copy, Debug, PartialEq, Eq)]
@@ -36,4 +39,37 @@ pub enum AddError {
     },
     /// There was not enough memory.
     Memory,
+}
+
+/// Why no title was read.
+#[derive(Clone, Copy, Debug, PartialEq, Eq)]
+pub enum TitleReadError {
+    /// The bytes are no title's text: the first line that breaks the form.
+    NotTitle(TitleFault),
+    /// There was not enough memory.
+    Memory,
+}
+
+impl From<AllocError> for TitleReadError {
+    ghost from_gives = { λ _ e. e ≡ read_errors.Memory };
+
+    fn from(_error: AllocError) -> TitleReadError {
+        TitleReadError::Memory
+    }
+}
+
+impl<T: Drop> From<AllocFailed<T>> for TitleReadError {
+    ghost from_gives = { λ _ e. e ≡ read_errors.Memory };
+
+    fn from(_error: AllocFailed<T>) -> TitleReadError {
+        TitleReadError::Memory
+    }
+}
+
+impl From<TitleFault> for TitleReadError {
+    ghost from_gives = { λ fault e. e ≡ read_errors.NotTitle fault };
+
+    fn from(fault: TitleFault) -> TitleReadError {
+        TitleReadError::NotTitle(fault)
+    }
 }

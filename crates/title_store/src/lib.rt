@@ -5,6 +5,9 @@
 
 mod build;
 mod errors;
+mod lines;
+mod reading;
+mod rows;
 mod table;
 mod title;
 mod writing;
@@ -12,5 +15,6 @@ mod writing;
 pub use blob_digests::{BLOB_LIMIT, Digest, digest_of};
 pub use build::TitleBuilder;
 pub use designs::{Design, DesignError, DesignFault, Key};
-pub use errors::{AddError, BuildError};
+pub use errors::{AddError, BuildError, TitleReadError};
 pub use title::Title;
+pub use title_terms::{TitleFault, TitleKind};
