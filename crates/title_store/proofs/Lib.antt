@@ -4,3 +4,4 @@ pub mod WrittenLines
 pub mod Texts
 pub mod RowByRow
 pub mod Filling
+pub mod ReadTitles

@@ -9,6 +9,8 @@ mod lines;
 mod reading;
 mod rows;
 mod table;
+#[cfg(test)]
+mod tests;
 mod title;
 mod writing;
 

@@ -1,23 +1,122 @@
 //! A title from its text.
 
-ghost use Rattle.std.specs.Prelude.{◌≡◌, ◌+◌, ◌*◌, ◌<◌, ◌≤◌, ◌^◌, ◌&&◌, [], codes, true, length, vec_len, is_some, IfOk, OnOk};
+ghost use Rattle.std.specs.Prelude.{◌≡◌, ◌+◌, ◌*◌, ◌<◌, ◌≤◌, ◌^◌, ◌&&◌, [], codes, true, length, vec_len, is_some, Ok, IfOk, IfErr, OnOk};
 ghost use Rattle.std.specs.List.{list_all};
 ghost use Rattle.form_terms.specs.Forms.{rows_after};
 ghost use Rattle.line_reader.specs.Finds.{Finds};
 ghost use Rattle.title_terms.specs.Designs.{is_bound, is_light};
-ghost use Rattle.title_terms.specs.TitleText.{design_form, list_form, number_line, segment_form, mark_form, marked_form, digest_form};
+ghost use Rattle.title_terms.specs.TitleText.{design_form, list_form, number_line, segment_form, mark_form, marked_form, digest_form, title_form, title_of, title_text};
+ghost use Rattle.title_terms.specs.Titles.{Title, IsTitle};
 ghost use Rattle.title_store.specs.Cells.{filled};
-ghost use Rattle.title_store.specs.Reads.{Reads, head_view};
+ghost use Rattle.title_store.specs.Reads.{Reads, ReadsAs, head_view, parts_title};
+ghost use Rattle.title_store.specs.declared.errors.TitleReadError.TheVariants as read_errors;
 
 use crate::errors::TitleReadError;
-use crate::rows::{ROW, digest_row, exact_row, mark_row, segment_row, text_row};
+use crate::rows::{ROW, digest_row, end, exact_row, mark_row, segment_row, text_row};
 use crate::table::{CellError, Table};
-use designs::{are_enough, have_room, is_affix, is_light};
+use crate::title::Title;
+use designs::{Design, are_enough, have_room, is_affix, is_light};
 use line_reader::Lines;
 use m3u8_text::MediaList;
 use std::alloc::Global;
 use texts::is_plain;
 use title_terms::{TitleFault, TitleKind};
+
+impl Title {
+    /// The title that the bytes are the text of.
+    pub fn read(alloc: Global, bytes: &[u8]) -> Result<Title, TitleReadError>
+        // Which title it is, or which fault.
+        ensures answer { ReadsAs result (title_of bytes.now) }
+        // What is read is valid, and the bytes are its text.
+        ensures found { IfOk result (λ title. IsTitle title × (bytes.now ≡ title_text title)) }
+        // The text of each valid title is read, unless memory runs out.
+        ensures every { (t : Title) → IsTitle t → bytes.now ≡ title_text t → ReadsAs result (Ok t) }
+    {
+        title_in(alloc, bytes)
+    }
+}
+
+/// The title whose text the bytes are.
+fn title_in(alloc: Global, bytes: &[u8]) -> Result<Title, TitleReadError>
+    ensures { ReadsAs result (title_of bytes.now) }
+{
+    let mut lines = Lines::of(bytes);
+    match read_parts(alloc, &mut lines) {
+        Ok(parts) => title_of_parts(alloc, parts),
+        Err(error) => Err(error),
+    }
+}
+
+/// What was read of a title.
+#[derive(Drop)]
+pub(crate) struct Parts<'a> {
+    pub(crate) head: Head<'a>,
+    pub(crate) list: MediaList,
+    pub(crate) marks: Vec<u32>,
+    pub(crate) table: Table,
+}
+
+/// All lines of a title, behind which nothing may follow.
+#[tactic(auto, unfolding(title_terms::specs::TitleText::title_form, form_terms::specs::Forms::followed, form_terms::specs::Forms::give))]
+fn read_parts<'a>(alloc: Global, lines: &mut Lines<'a>) -> Result<Parts<'a>, TitleReadError>
+    requires start { lines.old.number ≡ 0 }
+    ensures found { Reads parts_title result lines.old lines.new title_form }
+    ensures full { IfOk result (λ parts. list_all is_some parts.table ≡ true) }
+{
+    let head = read_head(lines)?;
+    let list = read_list(alloc, lines)?;
+    let marks = read_marks(alloc, lines, &head, list.len())?;
+    let count = variant_count(marks.as_slice(), head.bits);
+    let table = read_digests(alloc, lines, count)?;
+    match end(lines) {
+        Ok(()) => Ok(Parts {
+            head,
+            list,
+            marks,
+            table,
+        }),
+        Err(fault) => Err(TitleReadError::NotTitle(fault)),
+    }
+}
+
+/// How many variants so many marked segments have.
+fn variant_count(marks: &[u32], bits: u32) -> u32
+    requires few { length marks.now ≤ 256 }
+    requires bits { bits ≤ 8 }
+    ensures number { result ≡ length marks.now * 2 ^ bits }
+    ensures few { result ≤ 65536 }
+{
+    (marks.len() as u32) << bits
+}
+
+/// The title of parts that were read, which are those of a valid title.
+fn title_of_parts(alloc: Global, parts: Parts<'_>) -> Result<Title, TitleReadError>
+    requires valid { IsTitle (parts_title parts) }
+    requires full { list_all is_some parts.table ≡ true }
+    ensures made { IfOk result (λ title. title ≡ parts_title parts.entry) }
+    ensures memory { IfErr result (λ e. e ≡ read_errors.Memory) }
+{
+    let head = parts.head;
+    let design = Design::of(
+        alloc,
+        head.name,
+        head.bits,
+        head.dimension,
+        head.bound,
+        head.prefix,
+        head.suffix,
+        parts.marks.as_slice(),
+    );
+    match design {
+        Ok(design) => Ok(Title {
+            design,
+            list: parts.list,
+            table: parts.table,
+        }),
+        // No rule is broken, so memory was wanting.
+        Err(_) => Err(TitleReadError::Memory),
+    }
+}
 
 /// The first lines of a title, before the segments and marks.
 #[derive(Clone, Copy)]

@@ -1,11 +1,11 @@
 //! The text of a title.
 
-ghost use Rattle.std.specs.Prelude.{◌≡◌, ◌++◌, true, length, map, codes, is_some, IfOk, OnOk};
+ghost use Rattle.std.specs.Prelude.{◌≡◌, ◌++◌, true, length, map, codes, is_some, Ok, IfOk, OnOk};
 ghost use Rattle.std.specs.List.{flat_map, list_all};
 ghost use Rattle.std.specs.Fmt.{decimal};
 ghost use Rattle.hex.specs.Hex.{encode_lower};
 ghost use Rattle.form_terms.specs.TextLines.{line, number_text};
-ghost use Rattle.title_terms.specs.TitleText.{cut_text, design_lines, list_lines, marked_lines, segment_text, title_text};
+ghost use Rattle.title_terms.specs.TitleText.{cut_text, design_lines, list_lines, marked_lines, segment_text, title_of, title_text};
 ghost use Rattle.title_store.specs.Cells.{filled};
 
 use crate::table::Table;
@@ -17,9 +17,11 @@ use std::alloc::Global;
 use texts::number_text;
 
 impl Title {
-    /// The text that the title is kept as. `read` reads it again as the same title.
+    /// The text that the title is kept as.
     pub fn write(&self, alloc: Global) -> Result<Vec<u8>, Memory>
-        ensures { IfOk result (λ bytes. bytes.items ≡ title_text self.now) }
+        ensures text { IfOk result (λ bytes. bytes.items ≡ title_text self.now) }
+        // It is read again as the same title.
+        ensures again { IfOk result (λ bytes. title_of bytes.items ≡ Ok self.now) }
     {
         let mut out = Vec::new(alloc);
         put_design(alloc, &mut out, &self.design)?;
