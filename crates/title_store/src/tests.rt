@@ -97,8 +97,11 @@ fn text_with(alloc: Global, number: u32, other: &str) -> Result<Vec<u8>, Fail> {
     let mut at = 0u32;
     for line in PAIR {
         at = at.saturating_add(1);
-        let shown = if at == number { other } else { line };
-        text.extend_from_slice(shown.as_bytes())?;
+        if at == number {
+            text.extend_from_slice(other.as_bytes())?;
+        } else {
+            text.extend_from_slice(line.as_bytes())?;
+        }
         text.push(b'\n')?;
     }
     Ok(text)
@@ -266,6 +269,8 @@ fn adds(rt: &impl Abort, alloc: Global, design: Design, source: MediaList) -> Re
     let some = design.symbols() >= 16;
     prove!(some);
     let mut builder = TitleBuilder::new(alloc, design, source)?;
+    let name = builder.variant_name(alloc, 1, 15)?;
+    assert_eq!(rt; name.as_str(), "v/1-0f.ts");
     let one = Digest { bytes: [1; 32] };
     let two = Digest { bytes: [2; 32] };
     assert_eq!(rt; builder.add(0, 0, &one), Ok(()));
@@ -277,8 +282,6 @@ fn adds(rt: &impl Abort, alloc: Global, design: Design, source: MediaList) -> Re
     assert_eq!(rt; builder.add(1, 15, &one), Err(other));
     assert_eq!(rt; builder.add(1, 15, &two), Ok(()));
     assert!(rt; !builder.is_full());
-    let name = builder.variant_name(alloc, 1, 15)?;
-    assert_eq!(rt; name.as_str(), "v/1-0f.ts");
     Ok(())
 }
 
