@@ -24,7 +24,10 @@ fn is_film(rt: &impl Abort, alloc: Global, design: &Design) -> Result<(), Fail> 
     assert_eq!(rt; design.name().as_str(), "film");
     assert_eq!(rt; design.prefix().as_str(), "v/");
     assert_eq!(rt; design.suffix().as_str(), ".ts");
-    assert_eq!(rt; (design.bits(), design.dimension(), design.bound()), (4, 2, 3));
+    assert_eq!(rt;
+        (design.bits(), design.dimension(), design.bound()),
+        (4, 2, 3)
+    );
     assert_eq!(rt; (design.places(), design.symbols()), (10, 16));
     assert!(rt; design.marks() == [0, 1, 2, 3, 4, 5, 6, 7, 8, 9].as_slice());
     let name = design.variant_name(alloc, 9, 10)?;
@@ -60,16 +63,46 @@ fn tells_the_first_fault(rt: HostRuntime) -> Result<(), Fail> {
         (b"name = \"a b\"\n", DesignFault::Missing(Key::M)),
         (b"name = \"a\"\nm.x = 4\n", DesignFault::WrongType(Key::M)),
         (b"name = \"a\"\nm = 4.0\n", DesignFault::WrongType(Key::M)),
-        (b"name = \"a\"\nm = 4\nk = 2\nc = 3\nprefix = \"\"\nsuffix = \"\"\nmarked = 0\n", DesignFault::WrongType(Key::Marked)),
-        (b"name = \"a b\"\nm = 3\nk = 1\nc = 0\nprefix = \" \"\nsuffix = \" \"\nmarked = []\n", DesignFault::BadName),
-        (b"name = \"a\"\nm = -4\nk = 1\nc = 0\nprefix = \" \"\nsuffix = \" \"\nmarked = []\n", DesignFault::BadM),
-        (b"name = \"a\"\nm = 4\nk = 14\nc = 0\nprefix = \" \"\nsuffix = \" \"\nmarked = []\n", DesignFault::BadK),
-        (b"name = \"a\"\nm = 4\nk = 2\nc = 9\nprefix = \" \"\nsuffix = \" \"\nmarked = []\n", DesignFault::BadBound),
-        (b"name = \"a\"\nm = 4\nk = 3\nc = 7\nprefix = \" \"\nsuffix = \" \"\nmarked = []\n", DesignFault::TooMuchWork),
-        (b"name = \"a\"\nm = 4\nk = 2\nc = 1\nprefix = \" \"\nsuffix = \" \"\nmarked = []\n", DesignFault::BadPrefix),
-        (b"name = \"a\"\nm = 4\nk = 2\nc = 1\nprefix = \"\"\nsuffix = \"\\u00e4\"\nmarked = [0, 0]\n", DesignFault::BadSuffix),
-        (b"name = \"a\"\nm = 4\nk = 2\nc = 1\nprefix = \"\"\nsuffix = \"\"\nmarked = [0, 1, \"2\"]\n", DesignFault::BadMarked(2)),
-        (b"name = \"a\"\nm = 4\nk = 2\nc = 1\nprefix = \"\"\nsuffix = \"\"\nmarked = [0, 1, 2, 3, 4, 5, 6, 7, 8, 9, 10, 11, 12, 13, 14, 15, 99999]\n", DesignFault::TooManyPlaces),
+        (
+            b"name = \"a\"\nm = 4\nk = 2\nc = 3\nprefix = \"\"\nsuffix = \"\"\nmarked = 0\n",
+            DesignFault::WrongType(Key::Marked),
+        ),
+        (
+            b"name = \"a b\"\nm = 3\nk = 1\nc = 0\nprefix = \" \"\nsuffix = \" \"\nmarked = []\n",
+            DesignFault::BadName,
+        ),
+        (
+            b"name = \"a\"\nm = -4\nk = 1\nc = 0\nprefix = \" \"\nsuffix = \" \"\nmarked = []\n",
+            DesignFault::BadM,
+        ),
+        (
+            b"name = \"a\"\nm = 4\nk = 14\nc = 0\nprefix = \" \"\nsuffix = \" \"\nmarked = []\n",
+            DesignFault::BadK,
+        ),
+        (
+            b"name = \"a\"\nm = 4\nk = 2\nc = 9\nprefix = \" \"\nsuffix = \" \"\nmarked = []\n",
+            DesignFault::BadBound,
+        ),
+        (
+            b"name = \"a\"\nm = 4\nk = 3\nc = 7\nprefix = \" \"\nsuffix = \" \"\nmarked = []\n",
+            DesignFault::TooMuchWork,
+        ),
+        (
+            b"name = \"a\"\nm = 4\nk = 2\nc = 1\nprefix = \" \"\nsuffix = \" \"\nmarked = []\n",
+            DesignFault::BadPrefix,
+        ),
+        (
+            b"name = \"a\"\nm = 4\nk = 2\nc = 1\nprefix = \"\"\nsuffix = \"\\u00e4\"\nmarked = [0, 0]\n",
+            DesignFault::BadSuffix,
+        ),
+        (
+            b"name = \"a\"\nm = 4\nk = 2\nc = 1\nprefix = \"\"\nsuffix = \"\"\nmarked = [0, 1, \"2\"]\n",
+            DesignFault::BadMarked(2),
+        ),
+        (
+            b"name = \"a\"\nm = 4\nk = 2\nc = 1\nprefix = \"\"\nsuffix = \"\"\nmarked = [0, 1, 2, 3, 4, 5, 6, 7, 8, 9, 10, 11, 12, 13, 14, 15, 99999]\n",
+            DesignFault::TooManyPlaces,
+        ),
     ];
     let alloc = rt.alloc();
     for (document, first) in faults {

@@ -1,5 +1,4 @@
-use Rattle.std.proofs.Common.{◌≡◌, ◌<◌, ◌+◌, drop, ◌∷◌, ◌++◌, [], ℕ, List, Some, None, length, get_or, sym, ap, subst, ◌∙◌, arith}
-use Rattle.title_terms.specs.declared.fault.DesignFault.TheVariants.{BadMarked}
+use Rattle.std.proofs.Common.{◌≡◌, ◌<◌, ◌+◌, drop, ℕ, List, Some, None, length, get_or, sym, ap, subst, ◌∙◌, arith}
 use Rattle.title_terms.specs.DesignRules.{marks_behind}
 use Rattle.designs.specs.Answers.{AreMarks, next_mark}
 use Rattle.designs.proofs.Marks.{goes_on_at, stops_at, marks_push}
