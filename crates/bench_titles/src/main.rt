@@ -2,9 +2,9 @@
 //! puts one number out; for `bench/titles`, which times it.
 #![tactic(auto)]
 
-use lists::Text;
+use lists::{Memory, Text};
 use sha2::{Digest as _, Sha256};
-use shelf_io::{FolderShelf, Shelf, Sink, StdSink, fetch};
+use shelf_io::{FolderShelf, Shelf, Sink, StdSink, Taker, fetch, pour};
 use std::alloc::Global;
 use std::process::ExitCode;
 use texts::number_text;
@@ -29,6 +29,7 @@ fn answered(rt: HostRuntime) -> u8 {
         Some(b'r') => places(alloc, &mut shelf),
         Some(b'w') => written(alloc, &mut shelf),
         Some(b'h') => hashed(alloc, &mut shelf),
+        Some(b'p') => poured(alloc, &mut shelf),
         Some(b'f') => fetched(alloc, &mut shelf),
         Some(b's') => hashed_slice(alloc, &mut shelf),
         _ => None,
@@ -66,6 +67,34 @@ fn written<S: Shelf>(alloc: Global, shelf: &mut S) -> Option<u64> {
 fn hashed<S: Shelf>(alloc: Global, shelf: &mut S) -> Option<u64> {
     let digest = digest_of(alloc, shelf, "blob").ok()?;
     Some(u64::from(digest.bytes[0]))
+}
+
+/// Counts bytes and keeps none.
+#[derive(Drop)]
+struct Counted {
+    taken: u32,
+}
+
+impl Taker for Counted {
+    ghost use Rattle.std.specs.Prelude.{⊤, false};
+
+    ghost stands = { λ _ _. ⊤ };
+
+    ghost spent = { λ _. false };
+
+    ghost taken = { λ counted. counted.taken };
+
+    fn take(&mut self, piece: &[u8]) -> Result<(), Memory> {
+        self.taken += piece.len() as u32;
+        Ok(())
+    }
+}
+
+/// The length of the blob, part by part and without hashing.
+fn poured<S: Shelf>(alloc: Global, shelf: &mut S) -> Option<u64> {
+    let mut counted = Counted { taken: 0 };
+    pour(alloc, shelf, "blob", BLOB_LIMIT, &mut counted).ok()?;
+    Some(u64::from(counted.taken))
 }
 
 /// The length of the blob, which lies whole in memory then.
