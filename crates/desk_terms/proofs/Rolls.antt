@@ -1,15 +1,14 @@
 -- The roll of a register.
-use Rattle.std.proofs.Common.{◌≡◌, ℕ, ◌+◌, ◌*◌, ◌<◌, List, [], ◌∷◌, length, map, get_or, All, true, sym, ap, ◌∙◌, subst, arith}
+use Rattle.std.proofs.Common.{◌≡◌, ℕ, ◌+◌, ◌*◌, ◌<◌, List, [], length, get_or, true, sym, ap, ◌∙◌, subst, arith}
 use Rattle.std.specs.List.{enumerate_from}
-use Rattle.std.proofs.Math.Nat.{min-le_left, min-le_right}
+use Rattle.std.proofs.Math.Nat.{min-le_right}
 use Rattle.std.proofs.lemmas.Nat.{pow_pos, mod_below}
-use Rattle.std.proofs.lemmas.List.{length-map, get_or-map, get_or_default}
-use Rattle.std.proofs.lemmas.List.Elements.{All-map}
+use Rattle.std.proofs.lemmas.List.{length-map, get_or-map}
 use Rattle.std.proofs.lemmas.List.FromFn.{length-enumerate_from, get_or-enumerate_from}
 use Rattle.text_terms.specs.Names.{is_plain}
 use Rattle.register_terms.specs.Enrolment.{Enrolment, IsValid, names_of, message_of, message_count}
 use Rattle.register_terms.proofs.Messages.{messages_differ, enrolled-below}
-use Rattle.desk_terms.specs.Roll.{Entry, Roll, IsRoll, no_entry, entry_of, message_at, roll_of}
+use Rattle.desk_terms.specs.Roll.{Entry, IsRoll, no_entry, entry_of, message_at, roll_of}
 
 -- nobody, with a place
 abbrev nobody : ℕ × List ℕ

@@ -1,5 +1,5 @@
 -- Long division from the lowest bit on, and the serial that a message belongs to.
-use Rattle.std.proofs.Common.{◌≡◌, ◌≢◌, ℕ, zero, suc, ◌+◌, ◌-◌, ◌*◌, ◌/◌, ◌%◌, ◌^◌, ◌<◌, ◌≤◌, length, refl, sym, ap, ◌∙◌, arith}
+use Rattle.std.proofs.Common.{◌≡◌, ◌≢◌, ℕ, zero, suc, ◌+◌, ◌-◌, ◌*◌, ◌/◌, ◌%◌, ◌^◌, ◌<◌, ◌≤◌, length, sym, ap, ◌∙◌, arith}
 use Rattle.std.proofs.Math.Nat.{two-pow-succ, add-mul-mod_self_left, add-mul-mod_self_right, mod-add-mod, mod-eq_of_lt, add-mod_right}
 use Rattle.std.proofs.lemmas.Nat.{pow_pos, mod_below}
 use Rattle.register_terms.specs.Enrolment.{Enrolment, IsValid, message_count, message_of}

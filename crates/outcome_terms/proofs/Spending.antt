@@ -1,10 +1,10 @@
 -- What a call takes over blobs that are told.
-use Rattle.std.proofs.Common.{◌≡◌, ℕ, Option, Some, None, Result, Ok, Err, refl, sym, ap, subst, arith}
+use Rattle.std.proofs.Common.{◌≡◌, ℕ, Option, Some, None, Result, Ok, Err, sym, ap, subst, arith}
 use Rattle.std.specs.Option.{IfSome}
 use Rattle.shelf_terms.specs.Blobs.{Blobs}
 use Rattle.outcome_terms.specs.declared.refusal.Refusal.{Refusal}
 use Rattle.outcome_terms.specs.Reading.{Reading, given}
-use Rattle.outcome_terms.specs.Stores.{Store, Follows}
+use Rattle.outcome_terms.specs.Stores.{Store}
 use Rattle.outcome_terms.specs.Traces.{Trace, Counted, IsWithin}
 use Rattle.outcome_terms.specs.Spending.{Spends, nothing, traced, SpendsAtMost, TakesGiven, TakesAtMost}
 use Rattle.outcome_terms.proofs.Following.{decided, over_told}

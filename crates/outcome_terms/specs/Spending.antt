@@ -3,7 +3,7 @@ use Rattle.std.specs.Prelude.{◌≡◌, ℕ, Option, Some, None, Result, Ok, Er
 use Rattle.shelf_terms.specs.Blobs.{Blobs}
 use Rattle.outcome_terms.specs.declared.refusal.Refusal.{Refusal}
 use Rattle.outcome_terms.specs.Reading.{Reading, given}
-use Rattle.outcome_terms.specs.Request.{Request, Make, Enrol, Withdraw, Accuse}
+use Rattle.outcome_terms.specs.Request.{Request, Accuse}
 use Rattle.outcome_terms.specs.Stores.{Store, Follows}
 use Rattle.outcome_terms.specs.Traces.{Trace, Counted, IsWithin}
 use Rattle.outcome_terms.specs.AccuseCommand.{accuse_trace}

@@ -1,5 +1,5 @@
 -- What the command answers, from what the desk answered.
-use Rattle.std.proofs.Common.{◌≡◌, ℕ, ◌<◌, List, Bool, true, false, Option, Result, Ok, Err, refl, ap}
+use Rattle.std.proofs.Common.{◌≡◌, ℕ, List, Bool, true, false, Option, Ok, Err, ap}
 use Rattle.std.specs.Prelude.{nat_lt, if◌then◌else◌}
 use Rattle.code_terms.specs.Words.{readable}
 use Rattle.decoding_terms.specs.Parameters.{is_allowed_bound}
@@ -14,7 +14,7 @@ use Rattle.trace_desk.specs.declared.desk_error.DeskError.TheVariants.{BadBound,
 use Rattle.trace_desk.specs.Answers.{tracing, TracesAs}
 use Rattle.outcome_terms.specs.declared.fault.Fault.{Fault}
 use Rattle.outcome_terms.specs.declared.fault.Fault.TheVariants as fault
-use Rattle.outcome_terms.specs.Reading.{Reading, Give, Refuse, ◌>>◌, require}
+use Rattle.outcome_terms.specs.Reading.{Give, Refuse, ◌>>◌, require}
 use Rattle.outcome_terms.specs.Stores.{Settles}
 use Rattle.outcome_terms.specs.AccuseCommand.{report}
 use Rattle.trace_commands.specs.Refusals.{refused_as}

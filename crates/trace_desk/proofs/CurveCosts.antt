@@ -1,11 +1,9 @@
 -- What a curve costs at most.
-use Rattle.std.proofs.Common.{◌≡◌, ℕ, zero, suc, ◌+◌, ◌-◌, ◌*◌, ◌/◌, ◌%◌, ◌<◌, ◌≤◌, inl, inr, refl, sym, ◌∙◌, ap, subst, arith}
-use Rattle.std.proofs.lemmas.Bool.{cases_lt}
+use Rattle.std.proofs.Common.{◌≡◌, ℕ, zero, suc, ◌+◌, ◌-◌, ◌*◌, ◌/◌, ◌%◌, ◌<◌, ◌≤◌, refl, ◌∙◌, ap, arith}
 use Rattle.std.proofs.lemmas.Nat.{mul-le}
 use Rattle.std.proofs.Math.Nat.{mul-le-mul_left, mul-le-mul_right, lt_of_mul-lt-mul_left, mod-add-div}
 use Rattle.decoding_terms.specs.Parameters.{AreEnough, AreParameters, equation_count, term_count}
 use Rattle.decoding_terms.proofs.Sizes.{few_times, light, not_many, some_weight}
-use Rattle.decoder_terms.specs.Bounds.{root_bound, agreement_bound}
 use Rattle.desk_terms.specs.Bounds.{most_equations, most_terms, linear_curve_bound, iterative_curve_bound, product_bound, iterative_product_bound}
 use Rattle.gs_params.specs.declared.parameters.Params.{Params}
 use Rattle.list_decode.specs.Answers.{CostsAtMost}

@@ -1,7 +1,6 @@
 -- Those who are known, in order of serial, are the findings.
-use Rattle.std.proofs.Common.{◌≡◌, ◌≢◌, inl, inr, ℕ, zero, suc, ◌+◌, ◌*◌, ◌^◌, ◌<◌, ◌≤◌, Bool, true, false, List, [], ◌∷◌, length, map, get_or, filter, eqb, All, AllPairs, Contains, IsPermutation, Option, Some, None, Result, Ok, Err, refl, sym, ap, ap₂, ◌∙◌, subst, arith}
-use Rattle.std.specs.Prelude.{nat_lt, if◌then◌else◌}
-use Rattle.std.specs.List.{IsDistinct, range_with_len}
+use Rattle.std.proofs.Common.{◌≡◌, ◌≢◌, inl, inr, ℕ, suc, ◌*◌, ◌^◌, ◌<◌, ◌≤◌, true, List, [], ◌∷◌, length, map, get_or, filter, eqb, All, AllPairs, Contains, IsPermutation, Option, refl, sym, ap, ap₂, ◌∙◌, arith}
+use Rattle.std.specs.List.{range_with_len}
 use Rattle.std.specs.List.Sorted.{IsNonDecreasing, IsNonDecreasingBy, IsStrictlyIncreasing}
 use Rattle.std.proofs.lemmas.Bool.{cases_eq, eq-eqb, ne_eqb}
 use Rattle.std.proofs.lemmas.List.{length-map, get_or-map}
@@ -9,14 +8,11 @@ use Rattle.std.proofs.lemmas.List.Elements.{All-contains, All-map}
 use Rattle.std.proofs.lemmas.List.Kept.{AllPairs-from_increasing}
 use Rattle.std.proofs.lemmas.List.Sorted.{All-permutation, Contains-permutation, IsPermutation-map}
 use Rattle.std.proofs.lemmas.Map.Keys.{IsDistinct-IsPermutation, IsDistinct-from_apart, IsStrictlyIncreasing-from_distinct}
-use Rattle.code_terms.specs.Words.{readable}
-use Rattle.decoding_terms.specs.Parameters.{is_allowed_bound}
-use Rattle.decoder_terms.specs.Decoding.{meets_threshold, decoded, not_enough}
+use Rattle.decoder_terms.specs.Decoding.{meets_threshold}
 use Rattle.decoder_terms.proofs.Chosen.{ArePassing, chosen}
 use Rattle.desk_terms.specs.declared.findings.Accused.{Accused}
-use Rattle.desk_terms.specs.declared.findings.Findings.{Findings}
-use Rattle.desk_terms.specs.Findings.{findings, accusation, is_accused}
-use Rattle.desk_terms.specs.Roll.{Entry, Roll, IsRoll, no_entry, message_at}
+use Rattle.desk_terms.specs.Findings.{accusation, is_accused}
+use Rattle.desk_terms.specs.Roll.{Roll, IsRoll, no_entry, message_at}
 use Rattle.trace_desk.specs.Known.{AreKnown, serial_of}
 
 eqb_flips : (x y : ℕ) → eqb x y ≡ eqb y x

@@ -1,11 +1,11 @@
 -- From what decoding found to what the desk answers.
-use Rattle.std.proofs.Common.{◌≡◌, ◌≢◌, ℕ, ◌+◌, ◌-◌, ◌*◌, ◌^◌, ◌<◌, ◌≤◌, Bool, true, false, List, length, map, get_or, filter, All, AllPairs, Contains, IsPermutation, Option, Result, Ok, Err, refl, sym, ap, ◌∙◌, subst, arith}
+use Rattle.std.proofs.Common.{◌≡◌, ◌≢◌, ℕ, ◌+◌, ◌-◌, ◌*◌, ◌^◌, ◌<◌, ◌≤◌, Bool, true, false, List, length, All, AllPairs, Contains, IsPermutation, Option, Ok, Err, refl, sym, ap, ◌∙◌, subst, arith}
 use Rattle.std.specs.Prelude.{nat_lt, if◌then◌else◌}
 use Rattle.std.specs.List.{range_with_len}
 use Rattle.std.specs.List.Sorted.{IsNonDecreasingBy}
 use Rattle.std.proofs.lemmas.Nat.{mul-le}
 use Rattle.std.proofs.Math.Nat.{mul-le-mul_left, mul-le-mul_right}
-use Rattle.std.proofs.lemmas.List.Elements.{All-filter, filter_passes, Contains-get_or}
+use Rattle.std.proofs.lemmas.List.Elements.{All-filter, filter_passes}
 use Rattle.std.proofs.lemmas.List.FromFn.{length-range_with_len, get_or-range_with_len}
 use Rattle.std.proofs.lemmas.List.Kept.{AllPairs-filter}
 use Rattle.code_terms.specs.Words.{readable}
@@ -17,14 +17,12 @@ use Rattle.desk_terms.specs.declared.findings.Accused.{Accused}
 use Rattle.desk_terms.specs.declared.findings.Findings.{Findings}
 use Rattle.desk_terms.specs.Findings.{findings}
 use Rattle.desk_terms.specs.Roll.{Roll, IsRoll}
-use Rattle.list_decode.specs.declared.decode_error.DecodeError.{DecodeError}
 use Rattle.list_decode.specs.declared.decode_error.DecodeError.TheVariants as decoder
-use Rattle.list_decode.specs.Answers.{decoding, DecodesAs}
+use Rattle.list_decode.specs.Answers.{decoding}
 use Rattle.list_decode.proofs.Kept.{Contains-filter}
 use Rattle.trace_desk.specs.declared.desk_error.DeskError.TheVariants.{BadBound, TooFew}
-use Rattle.trace_desk.specs.Answers.{tracing, TracesAs}
+use Rattle.trace_desk.specs.Answers.{tracing}
 use Rattle.trace_desk.specs.Known.{AreKnown, serial_of}
-use Rattle.trace_desk.specs.Refusals.{refused_as}
 use Rattle.trace_desk.proofs.Findings.{sorted_findings}
 
 -- ---- what was decoded

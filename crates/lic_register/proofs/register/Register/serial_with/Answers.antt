@@ -1,5 +1,5 @@
 use Rattle.std.proofs.Common.{◌≡◌, ◌+◌, ◌-◌, ◌*◌, ◌%◌, ◌^◌, ◌<◌, ◌∙◌, ap, subst, arith}
-use Rattle.register_terms.specs.Enrolment.{Enrolment, message_of, message_count}
+use Rattle.register_terms.specs.Enrolment.{Enrolment, message_of}
 use Rattle.lic_register.proofs.Sizes.{message_count-le}
 use Rattle.lic_register.proofs.Quotients.{has_message}
 use Rattle.lic_register.proofs.register.Register.serial_with.Goals as goal
