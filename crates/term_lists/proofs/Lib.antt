@@ -1,3 +1,4 @@
 pub mod Derivatives
 pub mod Ordered
 pub mod Pushed
+pub mod PowerTables

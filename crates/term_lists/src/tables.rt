@@ -8,7 +8,7 @@ use gf2m::{Field, Ledger, Steps};
 use std::alloc::{AllocError, Global};
 
 /// The first powers of an element, from the power 0 on.
-pub(crate) fn powers<F: Field, P: Ledger>(
+pub fn powers<F: Field, P: Ledger>(
     alloc: Global,
     element: F,
     count: usize,
@@ -28,7 +28,7 @@ pub(crate) fn powers<F: Field, P: Ledger>(
 }
 
 /// The derivative of this order of x^exponent at the element whose powers these are.
-pub(crate) fn power_derivative<F: Field>(powers: &[F], exponent: usize, order: usize) -> F
+pub fn power_derivative<F: Field>(powers: &[F], exponent: usize, order: usize) -> F
     requires { exponent < length powers.now }
     ensures { (element : F) → ArePowers F.ring element powers.now → result ≡ weight F.ring element exponent order }
 {

@@ -2,8 +2,8 @@ use Rattle.std.proofs.Common.{◌≡◌, ◌-◌, ◌<◌, true, false, bit_and,
 use Rattle.std.proofs.lemmas.Bool.{eq-eqb, ne_eqb}
 use Rattle.std.proofs.lemmas.List.{get_or_default}
 use Rattle.algebra.specs.Binomials.{has_bits}
-use Rattle.gs_linear.proofs.PowerTables.{weight_has, weight_lacks}
-use Rattle.gs_linear.proofs.powers.power_derivative.Goals as goal
+use Rattle.term_lists.proofs.PowerTables.{weight_has, weight_lacks}
+use Rattle.term_lists.proofs.tables.power_derivative.Goals as goal
 
 pub returns-then-exponent-order : goal.returns-then-exponent-order
 returns-then-exponent-order g c = λ a powers.

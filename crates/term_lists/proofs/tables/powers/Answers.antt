@@ -3,8 +3,8 @@ use Rattle.algebra.specs.Sums.{power}
 use Rattle.algebra.proofs.Sums.{power_none, power_next}
 use Rattle.bi_poly.specs.Rows.{ArePowers}
 use Rattle.term_lists.proofs.Pushed.{pushed_count}
-use Rattle.gs_linear.proofs.PowerTables.{powers_none, powers_push}
-use Rattle.gs_linear.proofs.powers.powers.Goals as goal
+use Rattle.term_lists.proofs.PowerTables.{powers_none, powers_push}
+use Rattle.term_lists.proofs.tables.powers.Goals as goal
 
 pub powers-init : goal.powers-init
 powers-init g c = record {

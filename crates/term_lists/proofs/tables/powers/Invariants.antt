@@ -1,7 +1,7 @@
 use Rattle.std.proofs.Common.{◌≡◌, ◌+◌, ◌≤◌, length}
 use Rattle.algebra.specs.Sums.{power}
 use Rattle.bi_poly.specs.Rows.{ArePowers}
-use Rattle.gs_linear.proofs.powers.powers.Given as goal
+use Rattle.term_lists.proofs.tables.powers.Given as goal
 
 -- The first powers, and the next one.
 abbrev pub invariant-powers : goal.invariant-powers
