@@ -1,0 +1,6 @@
+pub mod Fronts
+pub mod Pivots
+pub mod Quotients
+pub mod Zeros
+pub mod States
+pub mod Raised
