@@ -4,3 +4,4 @@ pub mod Quotients
 pub mod Zeros
 pub mod States
 pub mod Raised
+pub mod Stepping
