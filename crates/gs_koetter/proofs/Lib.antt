@@ -5,3 +5,4 @@ pub mod Zeros
 pub mod States
 pub mod Raised
 pub mod Stepping
+pub mod Laying

@@ -161,3 +161,17 @@ module _ {F : Type 0} (R : Ring F) (decided : (x : F) → (x ≡ R.nil) ⊎ (x �
         one : (o : Option (Curve F)) → o ≡ result → spent w e p o ≤ suc (spent w e p (slot old p))
         one None is = let far = dropped (sym is) in omega (arith, far, was)
         one (Some c) is = let made = (product c (sym is)).exponent in omega (arith, made, was)
+
+-- where all kept curves meet a condition already
+pub state_zero : {F : Type 0} (R : Ring F) (w e n s : ℕ) (some : 1 ≤ w) (met more : Conditions F) (a b : F) (u v number handled : ℕ) (curves : List (Option (Curve F))) → place 1 u v ≡ number → u + v < s
+    → IsState R w e n s met a b handled curves → ((j : ℕ) (c : Curve F) → slot curves j ≡ Some c → at_place R number c ≡ R.nil)
+    → ((c d : F) (h k : ℕ) → more c d h k → met c d h k ⊎ ((c ≡ a) × (d ≡ b) × (h ≡ u) × (k ≡ v))) → IsState R w e n s more a b (suc handled) curves
+state_zero {F} R w e n s some met more a b u v number handled curves at few state none added = record {
+  kept = λ j c is.
+      kept_more R w e n s some met a b more u v j c.exponent c.coefs.items c.tile.items (state.kept j c is)
+      (sym ((state.kept j c is).tiled u v few) ∙ ap (entry_at c.tile.items) at ∙ none j c is) added;
+  few = omega (arith, state.few);
+}
+  where
+    entry_at : List F → ℕ → F
+    entry_at list k = slice_index_or list k R.nil

@@ -1,9 +1,9 @@
--- A curve's coefficients as a table, and its derivatives in x.
+-- A curve's coefficients as a table, and its derivatives.
 -- Source: this project's own.
-use Rattle.std.specs.Prelude.{◌≡◌, ℕ, ◌+◌, ◌*◌, ◌<◌, List, [], length, slice_index_or}
-use Rattle.std.specs.declared.vec.Vec.{Vec}
+use Rattle.std.specs.Prelude.{◌≡◌, ℕ, ◌+◌, ◌*◌, ◌<◌, List, length}
 use Rattle.algebra.specs.Lists.{coefficients}
 use Rattle.algebra.specs.Ring.{Ring}
+use Rattle.koetter_terms.specs.Curves.{curve}
 use Rattle.koetter_terms.specs.Derivatives.{derivative}
 
 module _ {F : Type 0} (R : Ring F) where
@@ -12,6 +12,9 @@ module _ {F : Type 0} (R : Ring F) where
   entry width table i j = coefficients R table (i * width + j)
 
   -- in each column the derivative of order u at a of the polynomial in that column of the table
-  pub record IsFolded (width height : ℕ) (table : List F) (a : F) (u : ℕ) (row : List F) : Type 0 where
-    pub count : length row ≡ width
-    pub each : (j : ℕ) → j < width → coefficients R row j ≡ derivative R height (λ i. entry width table i j) a u
+  abbrev pub IsFolded : ℕ → ℕ → List F → F → ℕ → List F → Type 0
+  IsFolded width height table a u row = (j : ℕ) → j < width → coefficients R row j ≡ derivative R height (λ i. entry width table i j) a u
+
+  -- at the orders (u, v) with u + v below s the derivatives of order v at b of the polynomial in y with the row's coefficients
+  abbrev pub IsColumn : ℕ → ℕ → List F → F → List F → Type 0
+  IsColumn s u row b tile = (v : ℕ) → u + v < s → curve R 1 tile u v ≡ derivative R (length row) (coefficients R row) b v

@@ -32,9 +32,10 @@ pub(crate) fn handle<F: Field, P: Ledger>(
         → IsState F.ring frame.now.terms.w frame.now.terms.e (length curves.old) frame.now.orders.e (Handled points frame.now.orders.e i (suc place)) a b (suc handled) curves.new }
     ensures products { prods.new ≤ prods.old + step_products frame.now.terms.w frame.now.terms.e frame.now.orders.e (length curves.old) }
 {
-    if let Some(p) = shortest(curves, place) {
-        step(curves, spare, frame, p, place, a, prods);
-    }
+    let Some(p) = shortest(curves, place) else {
+        return;
+    };
+    step(curves, spare, frame, p, place, a, prods);
 }
 
 /// The inverse of the curve's derivative at the place.

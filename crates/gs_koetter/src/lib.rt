@@ -4,5 +4,6 @@
 mod cancelling;
 mod conditions;
 mod curve;
+mod derivatives;
 mod frame;
 mod raising;
