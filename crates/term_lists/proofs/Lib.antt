@@ -2,3 +2,4 @@ pub mod Derivatives
 pub mod Ordered
 pub mod Pushed
 pub mod PowerTables
+pub mod Orders

@@ -15,5 +15,5 @@ invariant-orders g l = record {
   at : l.first ≡ place 1 l.u 0;
   tile : length l.tile.items ≡ length l.fn.tile.items;
   row : length l.row.items ≡ length l.fn.row.items;
-  products : l.prods ≤ l.fn.prods + (l.u * (length l.xs * length l.ys) + total l.u (λ u. l.side - u) * length l.ys);
+  products : l.prods ≤ l.fn.prods + (l.u * (length l.xs * length l.ys) + total l.u (λ u. l.side - 1 * u) * length l.ys);
 }

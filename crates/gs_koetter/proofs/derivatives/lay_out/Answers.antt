@@ -9,7 +9,7 @@ pub overflow_mul-term : goal.overflow_mul-term
 overflow_mul-term g c =
     let m = c.args.monomials.now in
     let at = term_at m.w m.e c.terms.k m.terms.items c.index-term.result.now m.terms_are (omega (arith, c.terms-test.true, c.requires.few)) c.index-term.ensures in
-    let small : c.index-term.result.now.x * c.args.width ≤ 4096 * 4096 = mul-le-mul (omega (arith, at.0, m.low)) c.requires.narrow in
+    let small : c.index-term.result.now.x * c.args.width ≤ 4096 * 4096 = mul-le-mul {n₂ = 4096} (omega (arith, at.0, m.low)) c.requires.narrow in
     omega (arith, small)
 
 pub overflow_add-term : goal.overflow_add-term
@@ -17,7 +17,7 @@ overflow_add-term g c =
     let m = c.args.monomials.now in
     let at = term_at m.w m.e c.terms.k m.terms.items c.index-term.result.now m.terms_are (omega (arith, c.terms-test.true, c.requires.few)) c.index-term.ensures in
     let y = few_columns m.w m.e c.args.width c.index-term.result.now.x c.index-term.result.now.y at.0 c.requires.wide in
-    let small : c.index-term.result.now.x * c.args.width ≤ 4096 * 4096 = mul-le-mul (omega (arith, at.0, m.low)) c.requires.narrow in
+    let small : c.index-term.result.now.x * c.args.width ≤ 4096 * 4096 = mul-le-mul {n₂ = 4096} (omega (arith, at.0, m.low)) c.requires.narrow in
     omega (arith, small, y, c.requires.narrow)
 
 pub index_mut-requires : goal.index_mut-requires
