@@ -6,3 +6,4 @@ pub mod States
 pub mod Raised
 pub mod Stepping
 pub mod Laying
+pub mod Deriving

@@ -43,7 +43,7 @@ fn clear<F: Field>(table: &mut Vec<F>)
 }
 
 /// Puts the coefficient of x^i y^j in row i and column j of a table with so many columns, and zeros everywhere else.
-fn lay_out<F: Field>(table: &mut Vec<F>, coefs: &[F], monomials: &Monomials, width: usize)
+pub(crate) fn lay_out<F: Field>(table: &mut Vec<F>, coefs: &[F], monomials: &Monomials, width: usize)
     requires few { length coefs.now ≤ length monomials.now.terms.items }
     requires size { length table.old.items ≡ monomials.now.e * width }
     requires wide { monomials.now.e ≤ monomials.now.w * width }
@@ -159,7 +159,7 @@ fn fill_column<F: Field, P: Ledger>(
 
 /// Puts in all derivatives at the point to whose coordinates these powers belong of the curve whose coefficients stand in the
 /// table.
-fn fill_tile<F: Field, P: Ledger>(
+pub(crate) fn fill_tile<F: Field, P: Ledger>(
     tile: &mut Vec<F>,
     row: &mut Vec<F>,
     table: &[F],

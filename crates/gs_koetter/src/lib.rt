@@ -6,4 +6,5 @@ mod conditions;
 mod curve;
 mod derivatives;
 mod frame;
+mod points;
 mod raising;
