@@ -7,3 +7,6 @@ pub mod Raised
 pub mod Stepping
 pub mod Laying
 pub mod Deriving
+pub mod Beginning
+pub mod Ending
+pub mod Found

@@ -6,5 +6,8 @@ mod conditions;
 mod curve;
 mod derivatives;
 mod frame;
+mod koetter;
 mod points;
 mod raising;
+
+pub use koetter::Koetter;
