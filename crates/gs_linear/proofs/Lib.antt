@@ -1,3 +1,2 @@
-pub mod PowerTables
 pub mod Rows
 pub mod Solutions

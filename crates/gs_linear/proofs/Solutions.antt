@@ -23,22 +23,8 @@ use Rattle.term_lists.specs.declared.exponents.Exponents.{Exponents}
 use Rattle.term_lists.specs.Places.{AreTermsBelow, exponents_at, place}
 use Rattle.term_lists.specs.Polynomials.{HasTerms, term_derivative}
 use Rattle.term_lists.proofs.Ordered.{place_below}
+use Rattle.term_lists.proofs.Orders.{orders_count}
 use Rattle.gs_linear.specs.Equations.{HaveEquations, IsEquation, IsSolution, point_at}
-
--- twice the number of orders below s
-triangle : (s : ℕ) → 2 * term_count 1 s ≡ s * (s + 1)
-triangle zero = refl
-triangle (suc s) =
-    let next = term_count-next 1 s (omega arith) in
-    let same : s + 1 ≡ suc s = omega arith in
-    let counts : term_count 1 (s + 1) ≡ term_count 1 (suc s) = ap (term_count 1) same in
-    let whole : s / 1 ≡ s = omega arith in
-    omega (arith, triangle s, next, counts, whole)
-
-pub orders_count : (r s : ℕ) → r * term_count 1 s ≡ equation_count r s
-orders_count r s =
-    let twice : r * (2 * term_count 1 s) ≡ r * (s * (s + 1)) = ap (λ n. r * n) (triangle s) in
-    omega (arith, twice)
 
 pub some_equations : (r s : ℕ) → 1 ≤ r → 1 ≤ s → r ≤ equation_count r s
 some_equations r s some_r some_s =

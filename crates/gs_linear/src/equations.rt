@@ -6,10 +6,9 @@ ghost use Rattle.gs_linear.specs.Equations.{HaveEquations, IsEquation};
 ghost use Rattle.term_lists.specs.Extended.{IsExtended};
 ghost use Rattle.term_lists.specs.Places.{exponents_at};
 
-use crate::powers::{power_derivative, powers};
 use gf2m::{Field, Ledger, Steps};
 use std::alloc::{AllocError, Global};
-use term_lists::Exponents;
+use term_lists::{Exponents, power_derivative, powers};
 
 /// The rows of all points. All exponents are below e.
 pub(crate) fn equations<F: Field, P: Ledger>(

@@ -3,7 +3,6 @@
 
 mod equations;
 mod linear;
-mod powers;
 #[cfg(test)]
 mod tests;
 

@@ -1,3 +1,5 @@
 pub mod Derivatives
 pub mod Ordered
 pub mod Pushed
+pub mod PowerTables
+pub mod Orders

@@ -1,0 +1,164 @@
+//! Curves over GF(256) for `bench/curves`, which times them.
+//!
+//! Each line of standard input is a job: `koetter`, `linear` or `points`, the dimension k, the bound c, the number of points and the rounds. In each round a coalition of c codewords makes other points. Or it is `slices` and the number of rounds of adding a multiple of one slice of 1,024 elements to another. The answer is a checksum.
+#![tactic(auto)]
+
+ghost use Rattle.std.specs.Prelude.{◌≡◌, ◌<◌, ◌≤◌, length, IfOk};
+
+use bi_poly::BiPoly;
+use gf2m::{Field, Gf, Ledger, Steps};
+use gs_koetter::Koetter;
+use gs_linear::Linear;
+use gs_params::{Interpolate, Params, params};
+use lists::Memory;
+use std::alloc::Global;
+use std::io;
+use std::marker::Brand;
+use std::sync::ledger::Blank;
+
+/// What is done in each round.
+#[derive(Debug, Clone, Copy)]
+enum Work {
+    Points,
+    Linear,
+    Koetter,
+    Slices,
+}
+
+/// One job to run.
+#[derive(Debug, Clone, Copy)]
+struct Job {
+    work: Work,
+    k: u32,
+    c: u32,
+    r: u32,
+    rounds: u32,
+}
+
+fn read_work(word: &str) -> Option<Work> {
+    match word {
+        "points" => Some(Work::Points),
+        "linear" => Some(Work::Linear),
+        "koetter" => Some(Work::Koetter),
+        "slices" => Some(Work::Slices),
+        _ => None,
+    }
+}
+
+fn read_job(line: &str) -> Option<Job> {
+    let mut words = line.split(' ');
+    let work = read_work(words.next()?)?;
+    let k = words.next()?.parse::<u32>().ok()?;
+    let c = words.next()?.parse::<u32>().ok()?;
+    let r = words.next()?.parse::<u32>().ok()?;
+    let rounds = words.next()?.parse::<u32>().ok()?;
+    Some(Job {
+        work,
+        k,
+        c,
+        r,
+        rounds,
+    })
+}
+
+/// The next of a row of numbers.
+fn next(number: &mut u32) -> u32 {
+    *number = number.wrapping_mul(1664525).wrapping_add(1013904223);
+    *number >> 8
+}
+
+fn element<F: Field>(number: u32) -> F {
+    F::of((number % 256) as u8).unwrap_or(F::zero())
+}
+
+/// The value at x of a polynomial with the coefficients that belong to the seed.
+fn value<F: Field, P: Ledger>(k: u32, seed: u32, x: F, prods: &mut Steps<P>) -> F {
+    let mut number = seed;
+    let mut value = F::zero();
+    for _ in 0..k {
+        value = value.mul(x, prods).add(element(next(&mut number)));
+    }
+    value
+}
+
+/// The points of a coalition's word, each with the symbol of one of its c members.
+fn coalition<F: Field, P: Ledger>(
+    alloc: Global,
+    job: Job,
+    seed: u32,
+    prods: &mut Steps<P>,
+) -> Result<Vec<(F, F)>, Memory> {
+    let mut number = seed;
+    let mut points = Vec::new(alloc);
+    for i in 0..job.r {
+        let member = next(&mut number) % job.c.max(1);
+        let x = element::<F>(i);
+        points.push((x, value(job.k, seed.wrapping_add(member * 77), x, prods)))?;
+    }
+    Ok(points)
+}
+
+fn with_number(sum: u64, number: u64) -> u64 {
+    sum.wrapping_mul(31).wrapping_add(number)
+}
+
+/// What is found with the points of one round.
+fn found<F: Field, P: Ledger>(
+    alloc: Global,
+    job: Job,
+    points: &[(F, F)],
+    chosen: &Params,
+    prods: &mut Steps<P>,
+) -> Result<BiPoly<F>, Memory> {
+    match job.work {
+        Work::Linear => Linear.curve(alloc, points, chosen, prods),
+        Work::Koetter => Koetter.curve(alloc, points, chosen, prods),
+        _ => Ok(BiPoly::zero(alloc)),
+    }
+}
+
+/// A multiple of the second slice added to the first in each round.
+fn slices<F: Field, P: Ledger>(
+    alloc: Global,
+    rounds: u32,
+    prods: &mut Steps<P>,
+) -> Result<u64, Memory> {
+    let mut xs = vec![in alloc; F::one(); 1024]?;
+    let ys = vec![in alloc; F::one(); 1024]?;
+    for round in 0..rounds {
+        F::add_multiple(&mut xs, &ys, element(round), prods);
+    }
+    Ok(xs[0].to() as u64)
+}
+
+fn run<P: Ledger>(alloc: Global, job: Job, blank: Blank) -> Result<u64, Memory>
+{
+    let mut prods = Steps::<P>::new(blank);
+    if let Work::Slices = job.work {
+        return slices::<Gf<8>, P>(alloc, job.rounds, &mut prods);
+    }
+    let Ok(chosen) = params(job.k, job.c, job.r) else {
+        return Ok(0);
+    };
+    let mut sum: u64 = 0;
+    for round in 0..job.rounds {
+        let points = coalition::<Gf<8>, P>(alloc, job, round, &mut prods)?;
+        let curve = found(alloc, job, &points, &chosen, &mut prods)?;
+        sum = with_number(sum, curve.coef(0, 1).to() as u64);
+    }
+    Ok(sum)
+}
+
+fn main(rt: HostRuntime) -> io::Result<()> {
+    for line in rt.lines(rt.alloc()) {
+        let Some(job) = read_job(line?.as_str()) else {
+            println!(rt; "no job")?;
+            continue;
+        };
+        match run::<Brand>(rt.alloc(), job, Blank::new(1)) {
+            Ok(sum) => println!(rt; "{sum}")?,
+            Err(Memory) => println!(rt; "no memory")?,
+        }
+    }
+    Ok(())
+}

@@ -1,0 +1,12 @@
+pub mod Fronts
+pub mod Pivots
+pub mod Quotients
+pub mod Zeros
+pub mod States
+pub mod Raised
+pub mod Stepping
+pub mod Laying
+pub mod Deriving
+pub mod Beginning
+pub mod Ending
+pub mod Found

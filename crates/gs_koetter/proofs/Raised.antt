@@ -1,0 +1,43 @@
+-- Lists that are multiplied by x + a.
+use Rattle.std.proofs.Common.{◌≡◌, ℕ, suc, ◌+◌, ◌*◌, ◌/◌, ◌<◌, ◌≤◌, List, length, ◌∙◌, sym, ap, subst, arith}
+use Rattle.std.specs.Prelude.{slice_index_or}
+use Rattle.algebra.specs.Lists.{coefficients}
+use Rattle.algebra.specs.Ring.{Ring}
+use Rattle.algebra.proofs.Laws.{ring}
+use Rattle.decoding_terms.specs.Parameters.{term_count}
+use Rattle.koetter_terms.specs.Curves.{AreQuotients, EndsAt, IsRaised}
+use Rattle.koetter_terms.proofs.Places.{place_next}
+use Rattle.koetter_terms.proofs.Steps.{ends_raised}
+use Rattle.term_lists.specs.declared.exponents.Exponents.{Exponents}
+use Rattle.term_lists.specs.Places.{AreTermsBelow, place}
+use Rattle.gs_koetter.specs.declared.curve.Curve.{Curve}
+use Rattle.gs_koetter.specs.Shapes.{HasShape}
+
+pub raised_len : (w x j len : ℕ) → 1 ≤ w → len ≡ place w x j + 1 → len + ((x + w * j) / w + 1) ≡ place w (suc x) j + 1
+raised_len w x j len some is = omega (arith, place_next w some x j, is)
+
+module _ {F : Type 0} (R : Ring F) where
+  open R use {nil, plus, times}
+
+  pub raised_lists : (q quotients : List ℕ) (a : F) (s source new : List F) → q ≡ quotients → s ≡ source → IsRaised R q a s new → IsRaised R quotients a source new
+  raised_lists q quotients a s source new same_q same_s is = subst (λ t. IsRaised R t a source new) same_q (subst (λ t. IsRaised R q a t new) same_s is)
+
+  pub shifted_lists : (q quotients : List ℕ) (s source new : List F) → q ≡ quotients → s ≡ source
+      → ((k : ℕ) → k < length q → coefficients R new k ≡ coefficients R s (slice_index_or q k 0)) → IsRaised R quotients nil source new
+  shifted_lists q quotients s source new same_q same_s is = raised_lists q quotients nil s source new same_q same_s (λ k l. is k l ∙ nothing (coefficients R s (slice_index_or q k 0)) (coefficients R s k))
+    where
+      nothing : (x y : F) → x ≡ plus x (times nil y)
+      nothing x y = sym (simp ring)
+
+  -- the shape of the product
+  pub raised_shape : (w e s j : ℕ) (quotients : List ℕ) (terms : List Exponents) (a : F) (old new : Curve F) → 1 ≤ w → AreQuotients w e quotients → AreTermsBelow w e terms → HasShape R w e s j old
+      → length new.coefs.items ≡ term_count w e → length new.tile.items ≡ term_count 1 s → IsRaised R quotients a old.coefs.items new.coefs.items → new.exponent ≡ suc old.exponent
+      → new.len ≡ old.len + ((old.exponent + w * j) / w + 1) → suc old.exponent + w * j < e → HasShape R w e s j new
+  raised_shape w e s j quotients terms a old new some are below is coefs tile raised exponent len light = record {
+    coefs = coefs;
+    tile = tile;
+    len = len ∙ raised_len w old.exponent j old.len some is.len ∙ ap (λ x. place w x j + 1) (sym exponent);
+    light = subst (λ x. x + w * j < e) (sym exponent) light;
+    ends = subst (λ x. EndsAt R w x j new.coefs.items) (sym exponent)
+        (ends_raised R w e some quotients are a old.coefs.items new.coefs.items (is.coefs ∙ sym are.count) (coefs ∙ sym are.count) raised old.exponent j is.ends light terms below);
+  }

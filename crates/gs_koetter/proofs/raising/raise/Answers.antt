@@ -1,0 +1,32 @@
+use Rattle.std.proofs.Common.{◌≡◌, ◌+◌, ◌*◌, ◌/◌, ◌<◌, ◌≤◌, suc, refl, length, sym, ◌∙◌, ap, subst, arith}
+use Rattle.koetter_terms.specs.Curves.{IsRaised}
+use Rattle.term_lists.proofs.Ordered.{place_below}
+use Rattle.gs_koetter.proofs.Raised.{raised_lists, raised_shape, shifted_lists}
+use Rattle.gs_koetter.proofs.States.{state_step}
+use Rattle.gs_koetter.proofs.raising.raise.Goals as goal
+
+pub returns-clause-product : goal.returns-clause-product
+returns-clause-product g c =
+    let R = g.F.Field.ring in
+    record {
+      coefs = subst (λ v. IsRaised R c.args.frame.now.terms.quotients.items c.args.a c.args.curve.now.coefs.items v.items) (sym c.swap.ensures.x_after)
+          (raised_lists R c.deref-2.result.now c.args.frame.now.terms.quotients.items c.args.a c.deref.result.now c.args.curve.now.coefs.items c.multiply.new.target.items c.deref-2.ensures.value c.deref.ensures.value c.multiply.ensures.product);
+      tile = subst (λ v. IsRaised R c.args.frame.now.orders.quotients.items R.nil c.args.curve.now.tile.items v.items) (sym c.swap-2.ensures.x_after)
+          (shifted_lists R c.deref-4.result.now c.args.frame.now.orders.quotients.items c.deref-3.result.now c.args.curve.now.tile.items c.shift.new.target.items c.deref-4.ensures.value c.deref-3.ensures.value c.shift.ensures.each);
+      exponent = omega arith;
+    }
+
+pub returns-clause-shape : goal.returns-clause-shape
+returns-clause-shape g c =
+    let R = g.F.Field.ring in
+    let frame = c.args.frame.now in
+    raised_shape R frame.terms.w frame.terms.e frame.orders.e c.args.j frame.terms.quotients.items frame.terms.terms.items c.args.a c.args.curve.now _ frame.terms.some_weight frame.terms.quotients_are frame.terms.terms_are c.requires.shape
+    (ap (λ v. length v.items) c.swap.ensures.x_after ∙ c.multiply.ensures.length ∙ c.requires.spare.coefs)
+    (ap (λ v. length v.items) c.swap-2.ensures.x_after ∙ c.shift.ensures.length ∙ c.requires.spare.tile)
+    (returns-clause-product g c).coefs (omega arith) refl (omega (arith, c.requires.light))
+
+pub returns-clause-products : goal.returns-clause-products
+returns-clause-products g c =
+    let frame = c.args.frame.now in
+    let below = place_below frame.terms.w frame.terms.e c.args.curve.now.exponent c.args.j frame.terms.some_weight c.requires.shape.light in
+    omega (arith, below, c.requires.shape.len, c.multiply.ensures.products)

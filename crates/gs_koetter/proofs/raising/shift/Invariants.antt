@@ -1,0 +1,11 @@
+use Rattle.std.proofs.Common.{◌≡◌, ℕ, ◌<◌, length}
+use Rattle.std.specs.Prelude.{slice_index_or}
+use Rattle.algebra.specs.Lists.{coefficients}
+use Rattle.gs_koetter.proofs.raising.shift.Given as goal
+
+-- The first entries stand.
+abbrev pub invariant-places : goal.invariant-places
+invariant-places g l = record {
+  done : (k : ℕ) → k < l.k → coefficients g.F.Field.ring l.target.items k ≡ coefficients g.F.Field.ring l.source (slice_index_or l.quotients k 0);
+  count : length l.target.items ≡ length l.fn.target.items;
+}

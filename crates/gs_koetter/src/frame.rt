@@ -1,0 +1,85 @@
+//! Tables that all curves share.
+
+ghost use Rattle.std.specs.Prelude.{◌≡◌, ◌+◌, ◌-◌, ◌*◌, ◌/◌, ◌<◌, ◌≤◌, ℕ, suc, IfOk};
+ghost use Rattle.koetter_terms.specs.Curves.{AreQuotients};
+ghost use Rattle.term_lists.specs.Places.{AreTermsBelow, place};
+
+use std::alloc::{AllocError, Global};
+use term_lists::{Exponents, terms_below};
+
+/// The terms that weigh less than e, where x weighs 1 and y weighs w, in order, and at each term's place the place of that
+/// term divided by x, or a number past all places.
+#[derive(Drop)]
+pub(crate) struct Monomials {
+    pub(crate) w: usize,
+    pub(crate) e: usize,
+    pub(crate) terms: Vec<Exponents>,
+    pub(crate) quotients: Vec<usize>,
+    ghost some_weight: { 1 ≤ w },
+    ghost low: { e ≤ 4096 },
+    ghost terms_are: { AreTermsBelow w e terms.items },
+    ghost quotients_are: { AreQuotients w e quotients.items },
+}
+
+impl Monomials {
+    /// The only error is want of memory.
+    pub(crate) fn below(alloc: Global, w: usize, e: usize) -> Result<Monomials, AllocError>
+        requires some { 1 ≤ w }
+        requires light { w ≤ 12 }
+        requires low { e ≤ 4096 }
+        ensures w { IfOk result (λ m. m.w ≡ w) }
+        ensures e { IfOk result (λ m. m.e ≡ e) }
+    {
+        let terms = terms_below(alloc, w, e)?;
+        let quotients = quotients(alloc, w, e, &terms)?;
+        Ok(Monomials {
+            w,
+            e,
+            terms,
+            quotients,
+        })
+    }
+}
+
+/// At each term's place the place of that term divided by x, or a number past all places.
+fn quotients(alloc: Global, w: usize, e: usize, terms: &[Exponents]) -> Result<Vec<usize>, AllocError>
+    requires some { 1 ≤ w }
+    requires light { w ≤ 12 }
+    requires low { e ≤ 4096 }
+    requires terms { AreTermsBelow w e terms.now }
+    ensures { IfOk result (λ quotients. AreQuotients w e quotients.items) }
+{
+    let mut quotients = Vec::with_capacity(alloc, terms.len())?;
+    'terms: for k in 0..terms.len() {
+        quotients.push(quotient(w, terms[k], k, terms.len()))?;
+    }
+    Ok(quotients)
+}
+
+/// The place of the term divided by x, or `none`. The term stands at place `k`.
+fn quotient(w: usize, term: Exponents, k: usize, none: usize) -> usize
+    requires some { 1 ≤ w }
+    requires place { place w term.x term.y ≡ k }
+    requires low { term.x + w * term.y < 4096 }
+    ensures divided { (i : ℕ) → term.x ≡ suc i → result ≡ place w i term.y }
+    ensures others { term.x ≡ 0 → result ≡ none }
+{
+    if term.x == 0 {
+        return none;
+    }
+    k - ((term.x - 1 + w * term.y) / w + 1)
+}
+
+/// The terms of the curves, the orders of the derivatives at a point as terms, and how many powers of y the curves have.
+#[derive(Drop)]
+pub(crate) struct Frame {
+    pub(crate) terms: Monomials,
+    pub(crate) orders: Monomials,
+    pub(crate) width: usize,
+    ghost orders_by_one: { orders.w ≡ 1 },
+    ghost few_weights: { terms.w ≤ 12 },
+    ghost some_powers: { 1 ≤ width },
+    ghost few_powers: { width ≤ 4096 },
+    ghost all_powers: { terms.e ≤ terms.w * width },
+    ghost light_powers: { terms.w * (width - 1) < terms.e },
+}

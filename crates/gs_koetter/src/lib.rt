@@ -1,0 +1,13 @@
+//! Curves by Koetter's interpolation.
+#![tactic(auto)]
+
+mod cancelling;
+mod conditions;
+mod curve;
+mod derivatives;
+mod frame;
+mod koetter;
+mod points;
+mod raising;
+
+pub use koetter::Koetter;

@@ -1,0 +1,131 @@
+//! All conditions at all points.
+
+ghost use Rattle.std.specs.Prelude.{◌≡◌, ℕ, ◌+◌, ◌*◌, ◌≤◌, length, Some};
+ghost use Rattle.bi_poly.specs.Rows.{ArePowers};
+ghost use Rattle.decoding_terms.specs.Parameters.{term_count};
+ghost use Rattle.koetter_terms.specs.State.{Handled};
+ghost use Rattle.gs_koetter.specs.declared.curve.Curve.{Curve};
+ghost use Rattle.gs_koetter.specs.Shapes.{HaveShape, IsEnded, IsSpare, slot};
+ghost use Rattle.gs_koetter.specs.States.{AreDerived, IsBare, IsDerived, IsScratch, derive_products, point_at, point_products};
+
+use crate::conditions::handle_all;
+use crate::curve::Curve;
+use crate::derivatives::{fill_powers, fill_tile, lay_out};
+use crate::frame::Frame;
+use gf2m::{Field, Ledger, Steps};
+
+/// Room for the powers of a point's coordinates, for the table of a curve, and for a row of its derivatives.
+#[derive(Drop)]
+pub(crate) struct Scratch<F> {
+    pub(crate) xs: Vec<F>,
+    pub(crate) ys: Vec<F>,
+    pub(crate) table: Vec<F>,
+    pub(crate) row: Vec<F>,
+}
+
+/// Puts in the curve's derivatives at the point to whose coordinates these powers belong.
+fn derive<F: Field, P: Ledger>(
+    curve: &mut Curve<F>,
+    scratch: &mut Scratch<F>,
+    frame: &Frame,
+    prods: &mut Steps<P>,
+)
+    requires curve { IsSpare frame.now.terms.w frame.now.terms.e frame.now.orders.e curve.old }
+    requires ended { IsEnded F.ring curve.old }
+    requires scratch { IsScratch frame.now.terms.e frame.now.width scratch.old }
+    ensures value { IsDerived F.ring frame.now.terms.w frame.now.terms.e frame.now.width frame.now.orders.e scratch.old.xs.items scratch.old.ys.items curve.old curve.new }
+    ensures scratch { IsScratch frame.now.terms.e frame.now.width scratch.new }
+    ensures xs { scratch.new.xs.items ≡ scratch.old.xs.items }
+    ensures ys { scratch.new.ys.items ≡ scratch.old.ys.items }
+    ensures products { prods.new ≤ prods.old + derive_products frame.now.terms.e frame.now.width frame.now.orders.e }
+{
+    lay_out(
+        &mut scratch.table,
+        &curve.coefs[..curve.len],
+        &frame.terms,
+        frame.width,
+    );
+    fill_tile(
+        &mut curve.tile,
+        &mut scratch.row,
+        &scratch.table,
+        &scratch.xs,
+        &scratch.ys,
+        frame.orders.e,
+        prods,
+    );
+}
+
+/// Puts in the derivatives of all curves.
+fn derive_all<F: Field, P: Ledger>(
+    curves: &mut [Option<Curve<F>>],
+    scratch: &mut Scratch<F>,
+    frame: &Frame,
+    prods: &mut Steps<P>,
+)
+    requires shape { (j : ℕ) (c : Curve F) → slot curves.old j ≡ Some c → IsSpare frame.now.terms.w frame.now.terms.e frame.now.orders.e c }
+    requires ended { (j : ℕ) (c : Curve F) → slot curves.old j ≡ Some c → IsEnded F.ring c }
+    requires scratch { IsScratch frame.now.terms.e frame.now.width scratch.old }
+    ensures value { (j : ℕ) → AreDerived F.ring frame.now.terms.w frame.now.terms.e frame.now.width frame.now.orders.e scratch.old.xs.items scratch.old.ys.items (slot curves.old j) (slot curves.new j) }
+    ensures count { length curves.new ≡ length curves.old }
+    ensures scratch { IsScratch frame.now.terms.e frame.now.width scratch.new }
+    ensures products { prods.new ≤ prods.old + length curves.old * derive_products frame.now.terms.e frame.now.width frame.now.orders.e }
+{
+    'curves: for slot in curves.iter_mut() {
+        if let Some(curve) = slot {
+            derive(curve, scratch, frame, prods);
+        }
+    }
+}
+
+/// Makes the derivatives of all orders at the point zero.
+fn handle_point<F: Field, P: Ledger>(
+    curves: &mut [Option<Curve<F>>],
+    spare: &mut Curve<F>,
+    scratch: &mut Scratch<F>,
+    frame: &Frame,
+    point: (F, F),
+    prods: &mut Steps<P>,
+)
+    requires shape { HaveShape F.ring frame.now.terms.w frame.now.terms.e frame.now.orders.e curves.old }
+    requires count { length curves.old ≡ frame.now.width }
+    requires spare { IsSpare frame.now.terms.w frame.now.terms.e frame.now.orders.e spare.old }
+    requires scratch { IsScratch frame.now.terms.e frame.now.width scratch.old }
+    ensures shape { HaveShape F.ring frame.now.terms.w frame.now.terms.e frame.now.orders.e curves.new }
+    ensures count { length curves.new ≡ length curves.old }
+    ensures spare { IsSpare frame.now.terms.w frame.now.terms.e frame.now.orders.e spare.new }
+    ensures scratch { IsScratch frame.now.terms.e frame.now.width scratch.new }
+    ensures state { (i handled : ℕ) (points : ℕ → F × F) → points i ≡ point
+        → IsBare F.ring frame.now.terms.w frame.now.terms.e frame.now.width (Handled points frame.now.orders.e i 0) handled curves.old
+        → IsBare F.ring frame.now.terms.w frame.now.terms.e frame.now.width (Handled points frame.now.orders.e (i + 1) 0) (handled + term_count 1 frame.now.orders.e) curves.new }
+    ensures products { prods.new ≤ prods.old + point_products frame.now.terms.w frame.now.terms.e frame.now.width frame.now.orders.e }
+{
+    fill_powers(&mut scratch.xs, point.0, prods);
+    fill_powers(&mut scratch.ys, point.1, prods);
+    derive_all(curves, scratch, frame, prods);
+    handle_all(curves, spare, frame, point.0, prods);
+}
+
+/// Makes the derivatives of all orders at all points zero.
+pub(crate) fn handle_points<F: Field, P: Ledger>(
+    curves: &mut [Option<Curve<F>>],
+    spare: &mut Curve<F>,
+    scratch: &mut Scratch<F>,
+    frame: &Frame,
+    points: &[(F, F)],
+    prods: &mut Steps<P>,
+)
+    requires shape { HaveShape F.ring frame.now.terms.w frame.now.terms.e frame.now.orders.e curves.old }
+    requires count { length curves.old ≡ frame.now.width }
+    requires spare { IsSpare frame.now.terms.w frame.now.terms.e frame.now.orders.e spare.old }
+    requires scratch { IsScratch frame.now.terms.e frame.now.width scratch.old }
+    requires state { IsBare F.ring frame.now.terms.w frame.now.terms.e frame.now.width (Handled (point_at F.ring points.now) frame.now.orders.e 0 0) 0 curves.old }
+    ensures shape { HaveShape F.ring frame.now.terms.w frame.now.terms.e frame.now.orders.e curves.new }
+    ensures count { length curves.new ≡ length curves.old }
+    ensures state { IsBare F.ring frame.now.terms.w frame.now.terms.e frame.now.width (Handled (point_at F.ring points.now) frame.now.orders.e (length points.now) 0) (length points.now * term_count 1 frame.now.orders.e) curves.new }
+    ensures products { prods.new ≤ prods.old + length points.now * point_products frame.now.terms.w frame.now.terms.e frame.now.width frame.now.orders.e }
+{
+    'points: for i in 0..points.len() {
+        handle_point(curves, spare, scratch, frame, points[i], prods);
+    }
+}

@@ -1,0 +1,80 @@
+//! Curves multiplied by x + a.
+
+ghost use Rattle.std.specs.Prelude.{◌≡◌, ℕ, ◌+◌, ◌*◌, ◌<◌, ◌≤◌, length, slice_index_or};
+ghost use Rattle.algebra.specs.Lists.{coefficients};
+ghost use Rattle.decoding_terms.specs.Parameters.{term_count};
+ghost use Rattle.koetter_terms.specs.Curves.{IsRaised};
+ghost use Rattle.gs_koetter.specs.Shapes.{HasShape, IsProduct, IsSpare};
+
+use crate::cancelling::add_front;
+use crate::curve::Curve;
+use crate::frame::Frame;
+use gf2m::{Field, Ledger, Steps};
+use std::mem;
+
+/// The entry at the place, and zero past the end.
+fn entry<F: Field>(source: &[F], place: usize) -> F
+    ensures { result ≡ coefficients F.ring source.now place }
+{
+    match source.get(place) {
+        Some(value) => *value,
+        None => F::zero(),
+    }
+}
+
+/// Puts at each place what the source has at the quotient there.
+fn shift<F: Field>(target: &mut Vec<F>, source: &[F], quotients: &[usize])
+    requires { length target.old.items ≡ length quotients.now }
+    ensures length { length target.new.items ≡ length target.old.items }
+    ensures each { (k : ℕ) → k < length quotients.now → coefficients F.ring target.new.items k ≡ coefficients F.ring source.now (slice_index_or quotients.now k 0) }
+{
+    'places: for k in 0..target.len() {
+        target[k] = entry(source, quotients[k]);
+    }
+}
+
+/// Puts in the product of the source, whose coefficients from `len` on are zero, with x + a.
+fn multiply<F: Field, P: Ledger>(
+    target: &mut Vec<F>,
+    source: &[F],
+    quotients: &[usize],
+    len: usize,
+    a: F,
+    prods: &mut Steps<P>,
+)
+    requires target { length target.old.items ≡ length quotients.now }
+    requires source { length source.now ≡ length quotients.now }
+    requires inside { len ≤ length source.now }
+    requires rest { (k : ℕ) → len ≤ k → coefficients F.ring source.now k ≡ F.ring.nil }
+    ensures length { length target.new.items ≡ length target.old.items }
+    ensures product { IsRaised F.ring quotients.now a source.now target.new.items }
+    ensures products { prods.new ≡ prods.old + len }
+{
+    shift(target, source, quotients);
+    add_front(target, source, len, a, prods);
+}
+
+/// Multiplies the curve by x + a, where a is the first coordinate of the point at hand. What is in `spare` is lost.
+pub(crate) fn raise<F: Field, P: Ledger>(
+    curve: &mut Curve<F>,
+    spare: &mut Curve<F>,
+    frame: &Frame,
+    j: usize,
+    a: F,
+    prods: &mut Steps<P>,
+)
+    requires shape { HasShape F.ring frame.now.terms.w frame.now.terms.e frame.now.orders.e j curve.old }
+    requires spare { IsSpare frame.now.terms.w frame.now.terms.e frame.now.orders.e spare.old }
+    requires light { curve.old.exponent + 1 + frame.now.terms.w * j < frame.now.terms.e }
+    ensures product { IsProduct F.ring frame.now.terms.quotients.items frame.now.orders.quotients.items a curve.old curve.new }
+    ensures shape { HasShape F.ring frame.now.terms.w frame.now.terms.e frame.now.orders.e j curve.new }
+    ensures spare { IsSpare frame.now.terms.w frame.now.terms.e frame.now.orders.e spare.new }
+    ensures products { prods.new ≤ prods.old + term_count frame.now.terms.w frame.now.terms.e }
+{
+    multiply(&mut spare.coefs, &curve.coefs, &frame.terms.quotients, curve.len, a, prods);
+    mem::swap(&mut curve.coefs, &mut spare.coefs);
+    shift(&mut spare.tile, &curve.tile, &frame.orders.quotients);
+    mem::swap(&mut curve.tile, &mut spare.tile);
+    curve.len += (curve.exponent + frame.terms.w * j) / frame.terms.w + 1;
+    curve.exponent += 1;
+}

@@ -1,0 +1,4 @@
+pub mod Places
+pub mod Derivatives
+pub mod Orders
+pub mod Steps

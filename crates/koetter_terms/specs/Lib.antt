@@ -1,0 +1,3 @@
+pub mod Derivatives
+pub mod Curves
+pub mod State
