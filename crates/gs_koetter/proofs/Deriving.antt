@@ -17,7 +17,7 @@ use Rattle.gs_koetter.specs.declared.curve.Curve.{Curve}
 use Rattle.gs_koetter.specs.Shapes.{HasShape, HaveShape, IsEnded, IsSpare, slot}
 use Rattle.gs_koetter.specs.States.{AreDerived, IsBare, IsDerived, IsState, spent}
 use Rattle.gs_koetter.specs.Tables.{entry}
-use Rattle.gs_koetter.proofs.Fronts.{take_length}
+use Rattle.gs_koetter.proofs.Prefixes.{take_length}
 use Rattle.gs_koetter.proofs.Pivots.{not_some, one_some}
 use Rattle.gs_koetter.proofs.Stepping.{ended}
 

@@ -13,7 +13,7 @@ use Rattle.algebra.specs.Lists.{coefficients}
 use Rattle.algebra.specs.Ring.{Ring}
 use Rattle.algebra.specs.Sums.{sum_below}
 use Rattle.algebra.proofs.Entries.{greatest_least, terms_sum}
-use Rattle.algebra.proofs.Laws.{ring}
+use Rattle.algebra.proofs.RingLaws.{ring}
 use Rattle.algebra.proofs.Sums.{sum_exchange, sum_same, sum_scaled}
 use Rattle.decoding_terms.specs.Parameters.{equation_count, term_count}
 use Rattle.decoding_terms.proofs.Terms.{many}

@@ -11,7 +11,7 @@ use Rattle.algebra.specs.Roots.{total}
 use Rattle.algebra.specs.Sums.{sum_below}
 use Rattle.algebra.proofs.CoefficientLists.{coefficients_below}
 use Rattle.algebra.proofs.Sums.{sum_last, sum_none}
-use Rattle.algebra.proofs.Laws.{ring}
+use Rattle.algebra.proofs.RingLaws.{ring}
 use Rattle.decoding_terms.specs.Parameters.{term_count}
 use Rattle.decoding_terms.proofs.Terms.{term_count-next}
 use Rattle.term_lists.proofs.Orders.{triangle}
@@ -21,7 +21,7 @@ use Rattle.koetter_terms.proofs.Derivatives.{derivative_is, derivative_same}
 use Rattle.koetter_terms.proofs.Places.{place_next, place_same}
 use Rattle.term_lists.specs.declared.exponents.Exponents.{Exponents}
 use Rattle.term_lists.specs.Places.{AreTermsBelow, exponents_at, place}
-use Rattle.gs_koetter.proofs.Fronts.{take_length}
+use Rattle.gs_koetter.proofs.Prefixes.{take_length}
 use Rattle.gs_koetter.specs.Tables.{IsFolded, entry}
 
 -- different rows or columns are different cells

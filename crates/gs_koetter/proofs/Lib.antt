@@ -1,4 +1,4 @@
-pub mod Fronts
+pub mod Prefixes
 pub mod Pivots
 pub mod Quotients
 pub mod Zeros

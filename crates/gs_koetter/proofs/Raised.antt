@@ -3,7 +3,7 @@ use Rattle.std.proofs.Common.{◌≡◌, ℕ, suc, ◌+◌, ◌*◌, ◌/◌, �
 use Rattle.std.specs.Prelude.{slice_index_or}
 use Rattle.algebra.specs.Lists.{coefficients}
 use Rattle.algebra.specs.Ring.{Ring}
-use Rattle.algebra.proofs.Laws.{ring}
+use Rattle.algebra.proofs.RingLaws.{ring}
 use Rattle.decoding_terms.specs.Parameters.{term_count}
 use Rattle.koetter_terms.specs.Curves.{AreQuotients, EndsAt, IsRaised}
 use Rattle.koetter_terms.proofs.Places.{place_next}

@@ -5,7 +5,7 @@ use Rattle.std.proofs.lemmas.Bool.{cases_lt}
 use Rattle.std.proofs.lemmas.Bool.Decides.{eqb_tells}
 use Rattle.algebra.specs.Ring.{Ring}
 use Rattle.algebra.specs.Roots.{total}
-use Rattle.algebra.proofs.Laws.{nil_times, times_nil}
+use Rattle.algebra.proofs.RingLaws.{nil_times, times_nil}
 use Rattle.decoding_terms.specs.Parameters.{term_count}
 use Rattle.koetter_terms.specs.Curves.{AreQuotients, IsSum, IsTile, curve}
 use Rattle.koetter_terms.specs.Derivatives.{derivative_at}

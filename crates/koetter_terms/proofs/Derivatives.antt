@@ -5,7 +5,7 @@ use Rattle.algebra.specs.Ring.{Ring}
 use Rattle.algebra.specs.Series.{IsBelow, linear, product}
 use Rattle.algebra.specs.Sums.{sum_below}
 use Rattle.algebra.proofs.Division.{linear_first, linear_next}
-use Rattle.algebra.proofs.Laws.{nil_times, ring}
+use Rattle.algebra.proofs.RingLaws.{nil_times, ring}
 use Rattle.algebra.proofs.Series.{product_same}
 use Rattle.algebra.proofs.Shift.{shifted, shifted_factor}
 use Rattle.algebra.proofs.Sums.{sum_more, sum_plus, sum_same, sum_scaled, sum_zero}

@@ -6,7 +6,7 @@ use Rattle.algebra.specs.Ring.{Ring}
 use Rattle.algebra.specs.Series.{IsBelow}
 use Rattle.algebra.proofs.CoefficientLists.{coefficients_below}
 use Rattle.algebra.proofs.Division.{linear_first, linear_next}
-use Rattle.algebra.proofs.Laws.{nil_times, plus_nil, plus_self, ring, times_nil}
+use Rattle.algebra.proofs.RingLaws.{nil_times, plus_nil, plus_self, ring, times_nil}
 use Rattle.decoding_terms.specs.Parameters.{term_count}
 use Rattle.term_lists.specs.declared.exponents.Exponents.{Exponents}
 use Rattle.term_lists.specs.Places.{AreTermsBelow, exponents_at, place}

@@ -1,4 +1,4 @@
-use Rattle.gs_koetter.proofs.Fronts.{front_added}
+use Rattle.gs_koetter.proofs.Prefixes.{front_added}
 use Rattle.gs_koetter.proofs.cancelling.add_front.Goals as goal
 
 pub returns-clause-sum : goal.returns-clause-sum

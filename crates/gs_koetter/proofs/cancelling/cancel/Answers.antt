@@ -1,6 +1,6 @@
 use Rattle.std.proofs.Common.{◌≡◌, refl, ◌∙◌, sym, ap, arith}
 use Rattle.gs_koetter.specs.Shapes.{at_place}
-use Rattle.gs_koetter.proofs.Fronts.{nothing_added}
+use Rattle.gs_koetter.proofs.Prefixes.{nothing_added}
 use Rattle.gs_koetter.proofs.Zeros.{read, zero_is}
 use Rattle.gs_koetter.proofs.cancelling.cancel.Goals as goal
 

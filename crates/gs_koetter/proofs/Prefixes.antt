@@ -7,7 +7,7 @@ use Rattle.std.proofs.lemmas.Simd.{get_or-zip2, length-zip2}
 use Rattle.std.proofs.Math.Seq.{get_or-append_right}
 use Rattle.algebra.specs.Lists.{coefficients}
 use Rattle.algebra.specs.Ring.{Ring}
-use Rattle.algebra.proofs.Laws.{ring}
+use Rattle.algebra.proofs.RingLaws.{ring}
 use Rattle.koetter_terms.specs.Curves.{IsSum}
 
 pub take_length : {X : Type 0} (n : ℕ) (xs : List X) → n ≤ length xs → length (take n xs) ≡ n
