@@ -10,7 +10,7 @@ ghost use Rattle.outcome_terms.specs.Output.{output};
 ghost use Rattle.outcome_terms.specs.Call.{Ends, GetsSoFar, HasEffect, IsRefused, KeepsOutput, SparesBlobs, StatusCauses, row};
 ghost use Rattle.command_io.specs.Answers.{left_text};
 ghost use Rattle.outcome_terms.specs.Spending.{SpendsAtMost, TakesAtMost, trace_of};
-ghost use Rattle.trace_commands.specs.Costs.{curve_costs};
+ghost use Rattle.trace_commands.specs.Costs.{IsBuilt, built_costs, curve_costs};
 ghost use Rattle.trace_cli.specs.Headline.{Headline};
 
 use crate::ending::put_out;
@@ -83,6 +83,11 @@ pub fn run<S: Shelf, O: Sink, I: Interpolate, P: Ledger, Q: Ledger>(
     // Whatever the status, a command that traces takes no more products and looks than one trace of the register and the word in
     // the two blobs may take, and none where it is refused before.
     ensures steps { IfSome (S.holds shelf.old) (λ blobs. TakesAtMost (curve_costs I.cost) (trace_of (request_of (map string_bytes words.now))) blobs
+        (record { products = prods.old; looks = looks.old }) (record { products = prods.new; looks = looks.new })) }
+
+    // Where curves are built point by point, these products are at most `iterative_product_bound`.
+    ensures products_built { IsBuilt I.cost → IfSome (S.holds shelf.old) (λ blobs.
+        TakesAtMost built_costs (trace_of (request_of (map string_bytes words.now))) blobs
         (record { products = prods.old; looks = looks.old }) (record { products = prods.new; looks = looks.new })) }
 
     // Over every store: it takes none, or what one trace of a register and a word that it read may take.
