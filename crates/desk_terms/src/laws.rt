@@ -31,12 +31,14 @@ pub fn worked_examples()
 {}
 
 /// The bounds of traces, worked out apart from the definitions: of ten places against three colluders by each of the two ways to
-/// a curve, of two places against one, and of 64 places against three.
+/// a curve, of two places against one, of 64 places against three, and of 19 with three coefficients by each of the two ways.
 pub fn worked_bounds()
     ensures three_colluders { product_bound 10 2 3 ≡ 7257160 }
     ensures three_colluders_iterative { iterative_product_bound 10 2 3 ≡ 1042600 }
     ensures two_places { product_bound 2 2 1 ≡ 9872 }
     ensures many_places { product_bound 64 2 3 ≡ 1899508420 }
+    ensures nineteen_places { product_bound 19 3 3 ≡ 2038781334 }
+    ensures nineteen_places_iterative { iterative_product_bound 19 3 3 ≡ 59664726 }
     ensures looks { look_bound 10 3 ≡ 13 }
     ensures more_looks { look_bound 64 3 ≡ 67 }
 {}
