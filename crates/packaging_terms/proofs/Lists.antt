@@ -1,5 +1,5 @@
 -- A licensee's playlist is one that may be written, and it names the licensee's variant at each marked segment.
-use Rattle.std.proofs.Common.{◌≡◌, ◌∙◌, ap, ℕ, zero, suc, ◌+◌, ◌^◌, ◌<◌, ◌≤◌, max, Bool, true, false, eqb, nat_le, List, [], ◌∷◌, length, map, get_or, Option, Some, None, All, refl, arith}
+use Rattle.std.proofs.Common.{sym, ◌≡◌, ◌∙◌, ap, ℕ, zero, suc, ◌+◌, ◌^◌, ◌<◌, ◌≤◌, max, Bool, true, false, eqb, nat_le, List, [], ◌∷◌, length, map, get_or, Option, Some, None, All, refl, arith}
 use Rattle.std.specs.Prelude.{slice_get}
 use Rattle.std.specs.Option.{option_map}
 use Rattle.std.specs.List.{fold, position_or_len, enumerate_from}
@@ -15,7 +15,7 @@ use Rattle.std.proofs.lemmas.List.Quantifiers.{position-Some}
 use Rattle.code_terms.proofs.Evaluation.{symbol_of-below}
 use Rattle.register_terms.specs.Enrolment.{Enrolment, message_of}
 use Rattle.playlist_terms.specs.Playlists.{PlaylistSegment, Playlist, IsSegment, IsPlaylist}
-use Rattle.title_terms.specs.Designs.{Design, IsDesign, places}
+use Rattle.title_terms.specs.Designs.{Design, IsDesign, places, symbols}
 use Rattle.title_terms.specs.Titles.{Title, IsTitle}
 use Rattle.packaging_terms.specs.Licensees.{fits, place_of, symbol_at, uri_at, licensed_segment, licensed_segments, whole_seconds, raised_target, licensed_list}
 use Rattle.packaging_terms.proofs.VariantNames.{HasVariant, variant_uri, variant_utf8}
@@ -130,3 +130,37 @@ unfolding licensed_list
 licensed_at t e serial i s is =
     let same : 0 + i ≡ i = omega arith in
     licensed_from t e serial 0 i t.list.segments ∙ ap (λ (o : Option PlaylistSegment). option_map (λ (s : PlaylistSegment). licensed_segment t e serial (0 + i, s)) o) is ∙ ap (λ (m : ℕ). Some (licensed_segment t e serial (m, s))) same
+
+-- a segment that the licensee gets, beside the one that it stands for
+pub record IsLicensed (t : Title) (e : Enrolment) (serial i : ℕ) (s : PlaylistSegment) : Type 0 where
+  pub source : PlaylistSegment
+  pub held : slice_get t.list.segments i ≡ Some source
+  pub is : s ≡ licensed_segment t e serial (i, source)
+
+pub licensed_is : (t : Title) (e : Enrolment) (serial i : ℕ) (s : PlaylistSegment) → slice_get (licensed_list t e serial).segments i ≡ Some s → IsLicensed t e serial i s
+unfolding licensed_list
+licensed_is t e serial i s is =
+    let same : 0 + i ≡ i = omega arith in
+    let at : option_map (λ (s : PlaylistSegment). licensed_segment t e serial (i, s)) (slice_get t.list.segments i) ≡ Some s =
+    ap (λ (m : ℕ). option_map (λ (s : PlaylistSegment). licensed_segment t e serial (m, s)) (slice_get t.list.segments i)) (sym same) ∙ sym (licensed_from t e serial 0 i t.list.segments) ∙ is in
+    by (slice_get t.list.segments i) refl at
+  where
+    same_segment : (x y : PlaylistSegment) → (let o : Option PlaylistSegment = Some x in o) ≡ Some y → y ≡ x
+    same_segment x y e = cc
+
+    by : (o : Option PlaylistSegment) → slice_get t.list.segments i ≡ o → option_map (λ (s : PlaylistSegment). licensed_segment t e serial (i, s)) o ≡ Some s → IsLicensed t e serial i s
+    by None none no_segment = absurd cc
+    by (Some source) held found = record { source = source; held = held; is = same_segment (licensed_segment t e serial (i, source)) s found }
+
+-- a licensee's symbol is one of the design
+pub symbol_below : (t : Title) (e : Enrolment) (serial place : ℕ) → IsLicensable t e → place < places t.design → symbol_at e serial place < symbols t.design
+symbol_below t e serial place able inside =
+    let design = able.valid.design in
+    let bits = and_parts (nat_le 4 t.design.bits) (nat_le t.design.bits 8) design.bits in
+    let same = able.same_bits in
+    let low : 4 ≤ e.bits = omega (arith, leb-true 4 t.design.bits bits.0, same) in
+    let high : e.bits ≤ 8 = omega (arith, leb-true t.design.bits 8 bits.1, same) in
+    let room = leb-true (places t.design) (2 ^ t.design.bits) design.room in
+    let powers : 2 ^ t.design.bits ≡ 2 ^ e.bits = ap (λ (m : ℕ). 2 ^ m) same in
+    let below : symbol_at e serial place < 2 ^ e.bits = symbol_of-below e.bits low high (message_of e serial) place e.dimension (omega (arith, inside, room, powers)) in
+    omega (arith, below, powers)
