@@ -8,7 +8,8 @@ use gf2m::Field;
 
 /// The map of some coefficients has these coefficients.
 pub fn laws_of_maps<F: Field>()
-    ensures { (p : ℕ → ℕ → F) (q : Bivariate F) → IsMapOf F.number p q → (i j : ℕ) → coefficient F.ring q i j ≡ p i j }
+    ensures { (p : ℕ → ℕ → F) (q : Bivariate F) → IsMapOf F.number p q → (i j : ℕ)
+        → coefficient F.ring q i j ≡ p i j }
 {}
 
 /// The degrees of Q(x, x y + g) by those of Q.
@@ -17,6 +18,7 @@ pub fn degrees_of_shifts<F: Field>()
         → greatest x_power shifted ≤ greatest x_power q + greatest y_power q }
     ensures y { (q shifted : Bivariate F) (g : F) → IsMapOf F.number (shift_of F.ring q g) shifted
         → greatest y_power shifted ≤ greatest y_power q }
-    ensures weight { (q shifted : Bivariate F) (g : F) → IsMapOf F.number (shift_of F.ring q g) shifted
+    ensures weight { (q shifted : Bivariate F) (g : F)
+        → IsMapOf F.number (shift_of F.ring q g) shifted
         → (w : ℕ) → greatest (weight_by w) shifted ≤ greatest (weight_by (w + 1)) q }
 {}

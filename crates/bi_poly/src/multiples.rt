@@ -22,7 +22,8 @@ impl<F: Field> BiPoly<F> {
         factor: F,
         prods: &mut Steps<P>,
     ) -> Result<(), Memory>
-        ensures ok { OnOk result (IsMapOf F.number (plus_multiple F.ring self.old factor other.now) self.new) }
+        ensures ok { OnOk result (IsMapOf F.number (plus_multiple F.ring self.old factor other.now)
+            self.new) }
         ensures err { OnErr result (self.new ≡ self.old) }
         // for each power of y of the other polynomial up to the greatest, one more than the greatest power of x beside it
         ensures products { prods.new ≤ prods.old + row_total 1 other.now }
@@ -68,8 +69,10 @@ fn add_rows<F: Field, P: Ledger>(
     ensures sums { (i j : ℕ) → j < count →
         cell F.ring rows.new.items i j
         ≡ F.ring.plus (cell F.ring rows.old.items i j) (F.ring.times factor (cell F.ring others.now i j)) }
-    ensures same { (i j : ℕ) → count ≤ j → cell F.ring rows.new.items i j ≡ cell F.ring rows.old.items i j }
-    ensures products { (most : ℕ → ℕ) → ((i j : ℕ) → most j ≤ i → cell F.ring others.now i j ≡ F.ring.nil)
+    ensures same { (i j : ℕ) → count ≤ j
+        → cell F.ring rows.new.items i j ≡ cell F.ring rows.old.items i j }
+    ensures products { (most : ℕ → ℕ)
+        → ((i j : ℕ) → most j ≤ i → cell F.ring others.now i j ≡ F.ring.nil)
         → prods.new ≤ prods.old + total count most }
     ensures none { count ≡ 0 → prods.new ≡ prods.old }
 {

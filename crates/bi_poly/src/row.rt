@@ -99,7 +99,8 @@ impl<F: Field> Row<F> {
     )
         requires { at + length source.now ≤ length self.old }
         ensures length { length self.new ≡ length self.old }
-        ensures before { (k : ℕ) → k < at → coefficients F.ring self.new k ≡ coefficients F.ring self.old k }
+        ensures before { (k : ℕ) → k < at
+            → coefficients F.ring self.new k ≡ coefficients F.ring self.old k }
         ensures from { (k : ℕ) →
             coefficients F.ring self.new (at + k)
             ≡ F.ring.plus

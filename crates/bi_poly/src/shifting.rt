@@ -33,7 +33,8 @@ impl<F: Field> BiPoly<F> {
     /// Q(x, x y + g). The only error is want of memory.
     pub fn shift<P: Ledger>(&self, g: F, prods: &mut Steps<P>) -> Result<BiPoly<F>, Memory>
         requires { greatest x_power self.now + greatest y_power self.now < 65536 }
-        ensures value { IfOk result (λ shifted. IsMapOf F.number (shift_of F.ring self.now g) shifted) }
+        ensures value { IfOk result (λ shifted. IsMapOf F.number (shift_of F.ring self.now g)
+            shifted) }
         ensures nonzero { self.now ≢ empty → IfOk result (λ shifted. shifted ≢ empty) }
         ensures products { prods.new ≤ prods.old + shift_bound self.now }
         ensures none { self.now ≡ empty → prods.new ≡ prods.old }
@@ -99,7 +100,8 @@ fn shifted_row<F: Field, P: Ledger>(
 
 /// x^at times the polynomial with these coefficients.
 fn raised<F: Field>(alloc: Global, coefs: &[F], at: usize) -> Result<Row<F>, AllocError>
-    ensures before { IfOk result (λ row. (k : ℕ) → k < at → coefficients F.ring row k ≡ F.ring.nil) }
+    ensures before { IfOk result (λ row. (k : ℕ) → k < at
+        → coefficients F.ring row k ≡ F.ring.nil) }
     ensures from { IfOk result (λ row. (k : ℕ) →
         coefficients F.ring row (at + k) ≡ coefficients F.ring coefs.now k) }
 {
@@ -119,7 +121,8 @@ fn add_term<F: Field, P: Ledger>(
     prods: &mut Steps<P>,
 ) -> Result<(), AllocError>
     requires { h + length coefs.now < 18446744073709551616 }
-    ensures before { (k : ℕ) → k < h → coefficients F.ring row.new k ≡ coefficients F.ring row.old k }
+    ensures before { (k : ℕ) → k < h
+        → coefficients F.ring row.new k ≡ coefficients F.ring row.old k }
     ensures from { OnOk result ((k : ℕ) →
         coefficients F.ring row.new (h + k)
         ≡ F.ring.plus

@@ -54,7 +54,8 @@ fn first_power<F: Field>(coefs: &[F], bound: usize) -> usize
 
 /// Drops the coefficients of the first powers of x.
 fn drop_powers<F: Field>(rows: &mut Vec<Row<F>>, count: usize)
-    ensures { (i j : ℕ) → cell F.ring rows.new.items i j ≡ cell F.ring rows.old.items (i + count) j }
+    ensures { (i j : ℕ) → cell F.ring rows.new.items i j
+        ≡ cell F.ring rows.old.items (i + count) j }
 {
     'rows: for j in 0..rows.len() {
         let present = count.min(rows[j].as_slice().len());

@@ -16,7 +16,8 @@ impl<F: Field> BiPoly<F> {
         f: &Poly<F>,
         prods: &mut Steps<P>,
     ) -> Result<Poly<F>, Memory>
-        ensures { IfOk result (λ p. IsListOf F.ring (substituted F.ring self.now (coefficients F.ring f.now)) p) }
+        ensures { IfOk result (λ p. IsListOf F.ring
+            (substituted F.ring self.now (coefficients F.ring f.now)) p) }
     {
         let mut value = Poly::from(self.alloc, &[])?;
         'rows: for j in (0..self.rows.len()).rev() {

@@ -13,18 +13,25 @@ ghost use Rattle.desk_terms.specs.Roll.{IsRoll, Roll, roll_of};
 
 /// Two messages of k coefficients that differ have the same symbol in at most k - 1 of the first n places, where n is at most 2^m.
 pub fn codewords_are_far_apart()
-    ensures { (m k n u v : ℕ) → 4 ≤ m → m ≤ 8 → n ≤ 2 ^ m → u < 2 ^ (m * k) → v < 2 ^ (m * k) → u ≢ v → length (common_places m k u v n) < k }
+    ensures { (m k n u v : ℕ) → 4 ≤ m → m ≤ 8 → n ≤ 2 ^ m → u < 2 ^ (m * k) → v < 2 ^ (m * k)
+        → u ≢ v → length (common_places m k u v n) < k }
 {}
 
 /// Where a coalition of at most c licensees made the word, and more than c² (k - 1) places of it can be read, the desk accuses
 /// members of the coalition alone, and at least one of them.
 pub fn coalitions_are_traced()
-    ensures { (roll : Roll) (word : List (Option ℕ)) (c : ℕ) (members : List ℕ) → IsRoll roll → 4 ≤ roll.bits → roll.bits ≤ 8 → length word ≤ 2 ^ roll.bits → 1 ≤ c → not_enough roll.dimension c < readable word → IsCoalition roll c members → Explains roll members word → IsTraced roll word c members }
+    ensures { (roll : Roll) (word : List (Option ℕ)) (c : ℕ) (members : List ℕ) → IsRoll roll
+        → 4 ≤ roll.bits → roll.bits ≤ 8 → length word ≤ 2 ^ roll.bits → 1 ≤ c
+        → not_enough roll.dimension c < readable word → IsCoalition roll c members
+        → Explains roll members word → IsTraced roll word c members }
 {}
 
 /// Two polynomials with n coefficients each that have the same values at n different points of a field are the same.
 pub fn values_tell_polynomials<F>()
-    ensures { (ring : Ring F) → IsField ring → (n : ℕ) (points : ℕ → F) (p q : ℕ → F) → IsBelow ring n p → IsBelow ring n q → AreDifferent n points → ((i : ℕ) → i < n → value ring n p (points i) ≡ value ring n q (points i)) → (k : ℕ) → p k ≡ q k }
+    ensures { (ring : Ring F) → IsField ring → (n : ℕ) (points : ℕ → F) (p q : ℕ → F)
+        → IsBelow ring n p → IsBelow ring n q → AreDifferent n points
+        → ((i : ℕ) → i < n → value ring n p (points i) ≡ value ring n q (points i)) → (k : ℕ)
+        → p k ≡ q k }
 {}
 
 /// Three licensees and a word that were worked out by hand meet all that is asked of a coalition, and two messages of two

@@ -27,16 +27,21 @@ pub fn worked_examples()
 
 /// The agreeing places are places of the word, each of them once, in ascending order, and no more than are readable.
 pub fn places_are_places()
-    ensures within { (m k u : ℕ) (word : List (Option ℕ)) → All (λ i. i < length word) (places_of m k u word) }
-    ensures ascending { (m k u : ℕ) (word : List (Option ℕ)) → IsStrictlyIncreasing (places_of m k u word) }
-    ensures readable { (m k u : ℕ) (word : List (Option ℕ)) → agreement_of m k u word ≤ readable word }
+    ensures within { (m k u : ℕ) (word : List (Option ℕ))
+        → All (λ i. i < length word) (places_of m k u word) }
+    ensures ascending { (m k u : ℕ) (word : List (Option ℕ))
+        → IsStrictlyIncreasing (places_of m k u word) }
+    ensures readable { (m k u : ℕ) (word : List (Option ℕ))
+        → agreement_of m k u word ≤ readable word }
     ensures few { (word : List (Option ℕ)) → readable word ≤ length word }
 {}
 
 /// A word that a text spells over symbols of m bits has at most 2^m places, and its symbols are below 2^m.
 pub fn texts_spell_words()
-    ensures places { (m : ℕ) (bytes : List ℕ) (word : List (Option ℕ)) → word_of m bytes ≡ Ok word → length word ≤ 2 ^ m }
-    ensures symbols { (m : ℕ) (bytes : List ℕ) (word : List (Option ℕ)) → word_of m bytes ≡ Ok word → HasSymbolsBelow (2 ^ m) word }
+    ensures places { (m : ℕ) (bytes : List ℕ) (word : List (Option ℕ)) → word_of m bytes ≡ Ok word
+        → length word ≤ 2 ^ m }
+    ensures symbols { (m : ℕ) (bytes : List ℕ) (word : List (Option ℕ)) → word_of m bytes ≡ Ok word
+        → HasSymbolsBelow (2 ^ m) word }
 {}
 
 /// What a text is read as, told by its tokens: a word exactly where each token stands for a slot and there are no more

@@ -11,7 +11,8 @@ ghost use Rattle.curve_terms.specs.Agreement.{GoesThrough};
 /// terms weigh less than e ≤ s t, then Q(x, f(x)) is zero for each polynomial f of degree at most w that goes through t of
 /// the points. Points may share a coordinate.
 pub fn agreement_makes_a_root<F>()
-    ensures { (ring : Ring F) → IsField ring → (q : Bivariate F) (f : ℕ → F) (points : ℕ → F × F) (r w e s t : ℕ)
+    ensures { (ring : Ring F) → IsField ring
+        → (q : Bivariate F) (f : ℕ → F) (points : ℕ → F × F) (r w e s t : ℕ)
         → greatest (weight_by w) q < e → e ≤ s * t → AreDifferent r points
         → ((i : ℕ) → i < r → HasMultiplicity ring s q (points i).0 (points i).1)
         → IsBelow ring (w + 1) f → GoesThrough ring (w + 1) f r points t

@@ -8,7 +8,8 @@ ghost use Rattle.decoder_terms.specs.Decoding.{decoded, not_enough, meets_thresh
 
 /// A list that ascends and has the messages that meet the threshold, all of them and nothing else, is what decoding finds.
 pub fn decoded_is_told()
-    ensures { (m k c : ℕ) (word : List (Option ℕ)) (messages : List ℕ) → IsStrictlyIncreasing messages
+    ensures { (m k c : ℕ) (word : List (Option ℕ)) (messages : List ℕ)
+        → IsStrictlyIncreasing messages
         → All (λ u. (u < 2 ^ (m * k)) × (meets_threshold m k word c u ≡ true)) messages
         → ((u : ℕ) → u < 2 ^ (m * k) → meets_threshold m k word c u ≡ true → Contains messages u)
         → messages ≡ decoded m k word c }

@@ -16,18 +16,28 @@ ghost use Rattle.desk_terms.specs.Examples.{first_licensees, one_place_lost, thr
 /// licensee is not enrolled; a word whose only readable place is met, and whose other place is lost; which bounds the
 /// dimensions 5, 8 and 2 allow; a whole copy of one licensee; and a roll whose messages follow no rule.
 pub fn worked_examples()
-    ensures three_colluders { report_text (findings (roll_of (first_licensees 20)) three_colluders 3) ≡ codes "{\"accused\":[{\"name\":\"lic0\",\"places\":[0,4,5,6],\"serial\":0},{\"name\":\"lic1\",\"places\":[1,7,8,9],\"serial\":1},{\"name\":\"lic16\",\"places\":[0,1,2,3],\"serial\":16}],\"bound\":3,\"readable\":10}\n" }
+    ensures three_colluders { report_text
+        (findings (roll_of (first_licensees 20)) three_colluders 3)
+        ≡ codes "{\"accused\":[{\"name\":\"lic0\",\"places\":[0,4,5,6],\"serial\":0},{\"name\":\"lic1\",\"places\":[1,7,8,9],\"serial\":1},{\"name\":\"lic16\",\"places\":[0,1,2,3],\"serial\":16}],\"bound\":3,\"readable\":10}\n" }
     ensures too_few { readable one_place_lost ≡ 9 }
     ensures needed { not_enough 2 3 ≡ 9 }
-    ensures nobody { report_text (findings (roll_of (first_licensees 20)) one_place_lost 2) ≡ codes "{\"accused\":[],\"bound\":2,\"readable\":9}\n" }
-    ensures met_exactly { report_text (findings (roll_of (first_licensees 20)) (Some 5 ∷ Some 5 ∷ []) 1) ≡ codes "{\"accused\":[{\"name\":\"lic5\",\"places\":[0,1],\"serial\":5}],\"bound\":1,\"readable\":2}\n" }
-    ensures not_enrolled { report_text (findings (roll_of (first_licensees 5)) (Some 5 ∷ Some 5 ∷ []) 1) ≡ codes "{\"accused\":[],\"bound\":1,\"readable\":2}\n" }
-    ensures lost_place { report_text (findings (roll_of (first_licensees 20)) (Some 5 ∷ None ∷ []) 1) ≡ codes "{\"accused\":[{\"name\":\"lic5\",\"places\":[0],\"serial\":5}],\"bound\":1,\"readable\":1}\n" }
-    ensures allowed { map (is_allowed_bound 5) (0 ∷ 1 ∷ 3 ∷ 4 ∷ []) ≡ false ∷ true ∷ true ∷ false ∷ [] }
+    ensures nobody { report_text (findings (roll_of (first_licensees 20)) one_place_lost 2)
+        ≡ codes "{\"accused\":[],\"bound\":2,\"readable\":9}\n" }
+    ensures met_exactly { report_text (findings (roll_of (first_licensees 20)) (Some 5 ∷ Some 5
+        ∷ []) 1) ≡ codes "{\"accused\":[{\"name\":\"lic5\",\"places\":[0,1],\"serial\":5}],\"bound\":1,\"readable\":2}\n" }
+    ensures not_enrolled { report_text (findings (roll_of (first_licensees 5)) (Some 5 ∷ Some 5
+        ∷ []) 1) ≡ codes "{\"accused\":[],\"bound\":1,\"readable\":2}\n" }
+    ensures lost_place { report_text (findings (roll_of (first_licensees 20)) (Some 5 ∷ None
+        ∷ []) 1) ≡ codes "{\"accused\":[{\"name\":\"lic5\",\"places\":[0],\"serial\":5}],\"bound\":1,\"readable\":1}\n" }
+    ensures allowed { map (is_allowed_bound 5) (0 ∷ 1 ∷ 3 ∷ 4 ∷ [])
+        ≡ false ∷ true ∷ true ∷ false ∷ [] }
     ensures allowed_of_eight { map (is_allowed_bound 8) (1 ∷ 2 ∷ []) ≡ true ∷ false ∷ [] }
     ensures most_allowed { map (is_allowed_bound 2) (8 ∷ 9 ∷ []) ≡ true ∷ false ∷ [] }
-    ensures whole_copy { report_text (findings (roll_of (first_licensees 20)) (replicate 16 (Some 0)) 3) ≡ codes "{\"accused\":[{\"name\":\"lic0\",\"places\":[0,1,2,3,4,5,6,7,8,9,10,11,12,13,14,15],\"serial\":0}],\"bound\":3,\"readable\":16}\n" }
-    ensures no_rule { report_text (findings three_entries three_colluders 3) ≡ codes "{\"accused\":[{\"name\":\"u\",\"places\":[0,1,2,3],\"serial\":0},{\"name\":\"w\",\"places\":[0,4,5,6],\"serial\":2}],\"bound\":3,\"readable\":10}\n" }
+    ensures whole_copy { report_text
+        (findings (roll_of (first_licensees 20)) (replicate 16 (Some 0)) 3)
+        ≡ codes "{\"accused\":[{\"name\":\"lic0\",\"places\":[0,1,2,3,4,5,6,7,8,9,10,11,12,13,14,15],\"serial\":0}],\"bound\":3,\"readable\":16}\n" }
+    ensures no_rule { report_text (findings three_entries three_colluders 3)
+        ≡ codes "{\"accused\":[{\"name\":\"u\",\"places\":[0,1,2,3],\"serial\":0},{\"name\":\"w\",\"places\":[0,4,5,6],\"serial\":2}],\"bound\":3,\"readable\":10}\n" }
 {}
 
 /// The bounds of traces, worked out apart from the definitions: of ten places against three colluders by each of the two ways to

@@ -11,6 +11,8 @@ pub fn texts_are_their_lines()
 
 /// Lines without line feeds that are written one after the other are cut again as they were.
 pub fn lines_are_cut_again()
-    ensures lines { (lines : List (List ℕ)) → All (All (λ b. b ≢ 10)) lines → ended_lines (flat_map line lines) ≡ lines }
-    ensures nothing_behind { (lines : List (List ℕ)) → All (All (λ b. b ≢ 10)) lines → rest_of (flat_map line lines) ≡ [] }
+    ensures lines { (lines : List (List ℕ)) → All (All (λ b. b ≢ 10)) lines
+        → ended_lines (flat_map line lines) ≡ lines }
+    ensures nothing_behind { (lines : List (List ℕ)) → All (All (λ b. b ≢ 10)) lines
+        → rest_of (flat_map line lines) ≡ [] }
 {}

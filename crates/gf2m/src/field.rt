@@ -78,7 +78,8 @@ pub trait Field: Copy + Eq {
         prods: &mut Steps<P>,
     )
         requires { length target.old ≡ length source.now }
-        ensures value { target.new ≡ zip2 (λ x y. ring.plus x (ring.times factor y)) target.old source.now }
+        ensures value { target.new ≡ zip2 (λ x y. ring.plus x (ring.times factor y)) target.old
+            source.now }
         ensures ticks { prods.new ≡ prods.old + length source.now };
 
     ghost field: { IsField ring };

@@ -75,7 +75,8 @@ fn sixteen_products(low: &[u8; 16], high: &[u8; 16], numbers: &[u8; 16]) -> [u8;
 /// The numbers of sixteen elements in a row.
 fn sixteen_numbers<const M: u32>(source: &[Gf<M>], start: usize) -> [u8; 16]
     requires { start + 16 ≤ length source.now }
-    ensures { (k : ℕ) (x : Gf M) → k < 16 → slice_index result k ≡ (slice_index_or source.now (start + k) x).value }
+    ensures { (k : ℕ) (x : Gf M) → k < 16
+        → slice_index result k ≡ (slice_index_or source.now (start + k) x).value }
 {
     let mut numbers = [0u8; 16];
     for (k, number) in numbers.iter_mut().enumerate() {
@@ -101,7 +102,8 @@ fn add_sixteen<const M: u32>(
         ≡ product M factor.value (slice_index_or source.now (start + k) y).value }
     ensures { (low : 4 ≤ M) (high : M ≤ 8) (xs : List (Gf M)) → length xs ≡ length source.now
         → target.old ≡ zipped_below (with_multiple M low high factor.entry) start xs source.now
-        → target.new ≡ zipped_below (with_multiple M low high factor.entry) (start + 16) xs source.now }
+        → target.new ≡ zipped_below (with_multiple M low high factor.entry) (start
+        + 16) xs source.now }
 {
     for k in 0..16usize {
         target[start + k] = Gf {

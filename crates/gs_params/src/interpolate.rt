@@ -28,6 +28,7 @@ pub trait Interpolate {
         requires { length points.now ≡ params.now.r }
         ensures nonzero { IfOk result (λ q. q ≢ empty) }
         ensures light { IfOk result (λ q. greatest (weight_by params.now.w) q < params.now.e) }
-        ensures multiplicity { IfOk result (λ q. All (λ p. HasMultiplicity F.ring params.now.s q p.0 p.1) points.now) }
+        ensures multiplicity { IfOk result
+            (λ q. All (λ p. HasMultiplicity F.ring params.now.s q p.0 p.1) points.now) }
         ensures products { prods.new ≤ prods.old + cost params.now };
 }

@@ -24,7 +24,8 @@ impl Register {
     /// Enrols a plain name in this state.
     pub(crate) fn admit(&mut self, name: &str, active: bool) -> Result<u32, EnrolError>
         ensures answer { EnrolsAs result (enrolment_of self.old name.now) }
-        ensures enrolled { OnOk result (self.new ≡ with_licensee self.old (record { name = name.now; active = active })) }
+        ensures enrolled { OnOk result (self.new
+            ≡ with_licensee self.old (record { name = name.now; active = active })) }
         ensures welcome { OnOk result (refusal_of self.old name.now ≡ None) }
         ensures refused { OnErr result (self.new ≡ self.old) }
     {
@@ -45,7 +46,8 @@ impl Register {
     /// Adds a name that is not refused as the last one. Where memory is wanting, nothing changes.
     fn add(&mut self, name: &str, active: bool) -> Result<(), EnrolError>
         requires { refusal_of self.old name.now ≡ None }
-        ensures added { OnOk result (self.new ≡ with_licensee self.old (record { name = name.now; active = active })) }
+        ensures added { OnOk result (self.new
+            ≡ with_licensee self.old (record { name = name.now; active = active })) }
         ensures memory { IfErr result (λ e. e ≡ enrol_errors.Memory) }
         ensures kept { OnErr result (self.new ≡ self.old) }
     {

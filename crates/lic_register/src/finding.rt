@@ -19,7 +19,8 @@ impl Register {
     ) -> Option<(u32, Licensee<'_>)>
         ensures some { IfSome result (λ found. (message_of self.now found.0 ≡ message)
             × (slice_get self.now.licensees found.0 ≡ Some (shown found.1))) }
-        ensures none { IsNone result → (serial : ℕ) → serial < length self.now.licensees → message_of self.now serial ≢ message }
+        ensures none { IsNone result → (serial : ℕ) → serial < length self.now.licensees
+            → message_of self.now serial ≢ message }
         ensures valid { IsValid self.now }
         ensures looks { looks.new ≡ looks.old + 1 }
     {

@@ -43,7 +43,8 @@ impl Register {
 
     /// The message of the licensee of this serial; `None` where nobody has it. This is one look.
     pub fn message_of<Q: Ledger>(&self, serial: u32, looks: &mut Steps<Q>) -> Option<Message>
-        ensures found { result ≡ (if nat_lt serial (length self.now.licensees) then Some (message_of self.now serial) else None) }
+        ensures found { result ≡ (if nat_lt serial (length self.now.licensees) then Some
+            (message_of self.now serial) else None) }
         ensures looks { looks.new ≡ looks.old + 1 }
     {
         looks.tick();

@@ -151,7 +151,8 @@ fn licensee_line<'a>(
     lines: &mut Lines<'a>,
 ) -> Result<LicenseeLine<'a>, RegisterFault>
     requires room { lines.old.number + 1 < 2 ^ 32 }
-    ensures found { Finds read_licensee result lines.old lines.new (row later (licensee_in edition)) }
+    ensures found { Finds read_licensee result lines.old lines.new
+        (row later (licensee_in edition)) }
     ensures counted { OnOk result (lines.new.number ≡ lines.old.number + 1) }
     ensures fewer { OnOk result (length lines.new.lines < length lines.old.lines) }
 {

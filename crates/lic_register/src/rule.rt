@@ -17,7 +17,8 @@ pub(crate) struct Rule {
 impl Rule {
     /// The first rule that these numbers break.
     pub(crate) fn broken(&self) -> Option<RegisterError>
-        ensures { result ≡ broken_rule self.now.bits self.now.dimension self.now.multiplier self.now.shift }
+        ensures { result ≡ broken_rule self.now.bits self.now.dimension self.now.multiplier
+            self.now.shift }
     {
         if !are_bits(u128::from(self.bits)) {
             return Some(RegisterError::BadM);

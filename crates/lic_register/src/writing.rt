@@ -33,7 +33,8 @@ impl Register {
 /// Writes the five lines before the licensees.
 #[tactic(auto, using(std::proofs::Common::append_assoc))]
 fn put_header(alloc: Global, out: &mut Vec<u8>, rule: &Rule) -> Result<(), Memory>
-    ensures { OnOk result (out.new.items ≡ out.old.items ++ flat_map line (header_lines Newer (register_by rule.now))) }
+    ensures { OnOk result (out.new.items
+        ≡ out.old.items ++ flat_map line (header_lines Newer (register_by rule.now))) }
 {
     put_line(out, b"register 2")?;
     put_number_line(alloc, out, b"m ", u128::from(rule.bits))?;
@@ -45,7 +46,9 @@ fn put_header(alloc: Global, out: &mut Vec<u8>, rule: &Rule) -> Result<(), Memor
 
 /// Writes each licensee on a line of its own.
 fn put_licensees(out: &mut Vec<u8>, licensees: &IndexMap<String, bool>) -> Result<(), Memory>
-    ensures { OnOk result (out.new.items ≡ out.old.items ++ flat_map line (map (licensee_line Newer) (entry_licensees licensees.now.entries))) }
+    ensures { OnOk result (out.new.items
+        ≡ out.old.items ++ flat_map line
+        (map (licensee_line Newer) (entry_licensees licensees.now.entries))) }
 {
     for serial in 0..licensees.len() {
         let (name, active) = licensees.get_index(serial).unwrap();
@@ -57,7 +60,9 @@ fn put_licensees(out: &mut Vec<u8>, licensees: &IndexMap<String, bool>) -> Resul
 /// Writes the line of a licensee.
 #[tactic(auto, using(std::proofs::Common::append_assoc))]
 fn put_licensee(out: &mut Vec<u8>, name: &str, active: bool) -> Result<(), Memory>
-    ensures { OnOk result (out.new.items ≡ out.old.items ++ line (licensee_line Newer (record { name = name.now; active = active }))) }
+    ensures { OnOk result (out.new.items
+        ≡ out.old.items ++ line (licensee_line Newer
+        (record { name = name.now; active = active }))) }
 {
     if active {
         out.extend_from_slice(b"active ")?;

@@ -51,7 +51,8 @@ impl<'a> Lines<'a> {
     /// feed as `unended`. After a refusal the place is where it was.
     pub fn next_line<K: Copy>(&mut self, missing: K, unended: K) -> Result<&'a [u8], LineFault<K>>
         requires room { self.old.number + 1 < 2 ^ 32 }
-        ensures found { Finds (λ text. text.now) result self.old self.new (next_line missing unended) }
+        ensures found { Finds (λ text. text.now) result self.old self.new
+            (next_line missing unended) }
         ensures counted { OnOk result (self.new.number ≡ self.old.number + 1) }
         ensures fewer { OnOk result (length self.new.lines < length self.old.lines) }
     {

@@ -29,7 +29,8 @@ pub(crate) fn eliminate<F: Field, P: Ledger>(
         (entries F.ring (map (λ row. row.items) rows.items))
         (length pivots.items)) }
     ensures count { IfOk result (λ pivots. length pivots.items ≤ length rows.items) }
-    ensures products { prods.new ≤ prods.old + length rows.items * (1 + (length rows.items - 1) * (1 + columns)) }
+    ensures products { prods.new ≤ prods.old
+        + length rows.items * (1 + (length rows.items - 1) * (1 + columns)) }
 {
     let mut pivots = Vec::with_capacity(alloc, rows.len().min(columns))?;
     'rows: while let Some(row) = rows.pop() {
@@ -49,7 +50,8 @@ pub(crate) fn eliminate<F: Field, P: Ledger>(
 /// The first column in which the row is not zero; none for a row of zeros.
 fn leading<F: Field>(row: &[F]) -> Option<usize>
     ensures none { IsNone result → IsZero F.ring (length row.now) (coefficients F.ring row.now) }
-    ensures some { IfSome result (λ column. (column < length row.now) × (coefficients F.ring row.now column ≢ F.ring.nil)) }
+    ensures some { IfSome result (λ column. (column < length row.now)
+        × (coefficients F.ring row.now column ≢ F.ring.nil)) }
     ensures first { IfSome result (λ column. IsZero F.ring column (coefficients F.ring row.now)) }
 {
     'columns: for (column, entry) in row.iter().enumerate() {

@@ -69,7 +69,8 @@ impl<F: Field> Matrix<F> {
         requires row { row < length self.old.rows }
         requires column { col < self.old.columns }
         ensures columns { self.new.columns ≡ self.old.columns }
-        ensures rows { self.new.rows ≡ set self.old.rows row (set (slice_index_or self.old.rows row []) col value) }
+        ensures rows { self.new.rows ≡ set self.old.rows row
+            (set (slice_index_or self.old.rows row []) col value) }
     {
         self.rows[row][col] = value;
     }
@@ -97,7 +98,8 @@ impl<F: Field> Matrix<F> {
         ensures none { IfOk result (λ found.
             IsNone found ↔ OnlyZeroSolves F.ring (length self.rows) self.columns (entries F.ring self.rows)) }
         ensures wide { length self.rows < self.columns → IfOk result (λ found. IsNone found → ⊥) }
-        ensures products { prods.new ≤ prods.old + 3 * (length self.rows * length self.rows) * self.columns }
+        ensures products { prods.new ≤ prods.old
+            + 3 * (length self.rows * length self.rows) * self.columns }
     {
         let Matrix { columns, rows } = self;
         let pivots = eliminate(alloc, rows, columns, prods)?;
@@ -112,7 +114,8 @@ impl<F: Field> Matrix<F> {
     pub fn rank<P: Ledger>(self, alloc: Global, prods: &mut Steps<P>) -> Result<usize, Memory>
         ensures rank { IfOk result (λ rank.
             IsRank F.ring (length self.rows) self.columns (entries F.ring self.rows) rank) }
-        ensures products { prods.new ≤ prods.old + 3 * (length self.rows * length self.rows) * self.columns }
+        ensures products { prods.new ≤ prods.old
+            + 3 * (length self.rows * length self.rows) * self.columns }
     {
         let Matrix { columns, rows } = self;
         let pivots = eliminate(alloc, rows, columns, prods)?;

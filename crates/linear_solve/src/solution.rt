@@ -27,7 +27,8 @@ pub(crate) fn free_column<F: Field>(pivots: &[Pivot<F>], columns: usize) -> Opti
 
 /// Whether the column is no pivot's.
 fn is_free<F: Field>(pivots: &[Pivot<F>], column: usize) -> bool
-    ensures { IsTrue result ↔ ((j : ℕ) → j < length pivots.now → slice_index (columns_of pivots.now) j ≢ column) }
+    ensures { IsTrue result ↔ ((j : ℕ) → j < length pivots.now
+        → slice_index (columns_of pivots.now) j ≢ column) }
 {
     'pivots: for pivot in pivots {
         if pivot.column == column {
@@ -40,7 +41,8 @@ fn is_free<F: Field>(pivots: &[Pivot<F>], column: usize) -> bool
 /// The row's sum of products with the vector.
 fn row_times<F: Field, P: Ledger>(row: &[F], vector: &[F], prods: &mut Steps<P>) -> F
     requires { length row.now ≡ length vector.now }
-    ensures value { result ≡ row_times F.ring (length row.now) (coefficients F.ring row.now) (coefficients F.ring vector.now) }
+    ensures value { result ≡ row_times F.ring (length row.now) (coefficients F.ring row.now)
+        (coefficients F.ring vector.now) }
     ensures products { prods.new ≡ prods.old + length row.now }
 {
     let mut sum = F::zero();

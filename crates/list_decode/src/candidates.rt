@@ -23,9 +23,11 @@ pub fn kept<F: Field, P: Ledger>(
     requires length { length word.now ≡ code.now.places }
     requires bound { c ≤ 8 }
     requires short { All (λ root. length root ≤ code.now.dimension) roots.now }
-    ensures value { IfOk result (λ messages. messages.items ≡ filter (meets_threshold F.BITS code.now.dimension word.now c)
+    ensures value { IfOk result (λ messages. messages.items
+        ≡ filter (meets_threshold F.BITS code.now.dimension word.now c)
         (map (λ root. packed F.BITS (map F.number root)) roots.now)) }
-    ensures products { prods.new ≤ prods.old + length roots.now * (code.now.places * code.now.dimension) }
+    ensures products { prods.new ≤ prods.old
+        + length roots.now * (code.now.places * code.now.dimension) }
 {
     let mut messages = Vec::new(alloc);
     'roots: for i in 0..roots.len() {
@@ -38,7 +40,8 @@ pub fn kept<F: Field, P: Ledger>(
 
 /// Puts the message behind the others where it is one of them.
 fn keep(messages: &mut Vec<Message>, message: Message, keeps: bool) -> Result<(), AllocError>
-    ensures { OnOk result (messages.new.items ≡ messages.old.items ++ (if keeps then message ∷ [] else [])) }
+    ensures { OnOk result (messages.new.items
+        ≡ messages.old.items ++ (if keeps then message ∷ [] else [])) }
 {
     if keeps {
         messages.push(message)?;

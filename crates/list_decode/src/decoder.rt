@@ -32,7 +32,8 @@ pub fn decode<F: Field, I: Interpolate, P: Ledger>(
     requires symbols { HasSymbolsBelow F.Q word.now }
     ensures decoded { DecodesAs result (decoding F.BITS code.now.dimension word.now c) }
     ensures few { IfOk result (λ messages. length messages < code.now.places + c) }
-    ensures products { (curve : ℕ) → CostsAtMost I.cost code.now.dimension c (readable word.now) curve
+    ensures products { (curve : ℕ)
+        → CostsAtMost I.cost code.now.dimension c (readable word.now) curve
         → prods.new ≤ prods.old + decoding_bound curve code.now.places code.now.dimension c }
 {
     let _places = code.n();

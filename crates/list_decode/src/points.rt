@@ -13,7 +13,8 @@ use std::alloc::{AllocError, Global};
 pub fn points<F: Field>(alloc: Global, word: &Word) -> Result<Vec<(F, F)>, Memory>
     requires places { length word.now ≤ F.Q }
     requires symbols { HasSymbolsBelow F.Q word.now }
-    ensures { IfOk result (λ points. ArePoints F.ring F.number F.BITS word.now (length word.now) points.items) }
+    ensures { IfOk result (λ points. ArePoints F.ring F.number F.BITS word.now (length word.now)
+        points.items) }
 {
     let mut points = Vec::new(alloc);
     'places: for place in 0..word.len() {
@@ -30,7 +31,8 @@ fn add_slot<F: Field>(
 ) -> Result<(), AllocError>
     requires place { place < F.Q }
     requires symbol { IfSome slot (λ v. v < F.Q) }
-    ensures { OnOk result ((word : List (Option ℕ)) → place < length word → slot_at word place ≡ slot
+    ensures { OnOk result ((word : List (Option ℕ)) → place < length word
+        → slot_at word place ≡ slot
         → ArePoints F.ring F.number F.BITS word place points.old.items
         → ArePoints F.ring F.number F.BITS word (place + 1) points.new.items) }
 {
@@ -44,7 +46,8 @@ fn add_slot<F: Field>(
 fn add_point<F: Field>(points: &mut Vec<(F, F)>, place: u32, symbol: u8) -> Result<(), AllocError>
     requires place { place < F.Q }
     requires symbol { symbol < F.Q }
-    ensures { OnOk result ((word : List (Option ℕ)) → place < length word → slot_at word place ≡ Some symbol
+    ensures { OnOk result ((word : List (Option ℕ)) → place < length word
+        → slot_at word place ≡ Some symbol
         → ArePoints F.ring F.number F.BITS word place points.old.items
         → ArePoints F.ring F.number F.BITS word (place + 1) points.new.items) }
 {

@@ -36,7 +36,8 @@ impl LineReader {
     /// Takes the next line.
     pub(crate) fn take(&mut self, alloc: Global, text: &[u8]) -> Result<(), LineError>
         requires { self.old.lines + 1 < 2 ^ 32 }
-        ensures line { (before : List terms.MediaLine) → StandsFor self.old before → TakesLine result before self.new (terms.media_line text.now) }
+        ensures line { (before : List terms.MediaLine) → StandsFor self.old before
+            → TakesLine result before self.new (terms.media_line text.now) }
         ensures number { self.new.lines ≡ self.old.lines + 1 }
     {
         let line = media_line(text);
@@ -53,7 +54,8 @@ impl LineReader {
 
     /// The playlist of all lines that were taken, which have no fault.
     pub(crate) fn finish(self) -> Result<MediaList, PlaylistError>
-        ensures { (before : List terms.MediaLine) → StandsFor self before → first_fault before ≡ None → ReadsAs result (playlist_among before) }
+        ensures { (before : List terms.MediaLine) → StandsFor self before
+            → first_fault before ≡ None → ReadsAs result (playlist_among before) }
     {
         if self.lines == 0 {
             return Err(PlaylistError::Line {

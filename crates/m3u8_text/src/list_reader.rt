@@ -52,7 +52,8 @@ impl ListReader {
 
     /// The playlist that the bytes spell which it took, or their first fault; want of memory where it is spent.
     pub fn finish(self) -> Result<MediaList, PlaylistError>
-        ensures playlist { (bytes : List ℕ) → Stands self bytes → ReadsAs result (playlist_of bytes) }
+        ensures playlist { (bytes : List ℕ) → Stands self bytes
+            → ReadsAs result (playlist_of bytes) }
         ensures spent { self.spent ≡ true → IsErrOf result playlist_errors.Memory }
     {
         if self.spent {

@@ -71,7 +71,9 @@ impl ListState {
         number: u32,
     ) -> Result<(), LineError>
         requires { IsSaid (said line) }
-        ensures { (before : List said.MediaLine) → number ≡ suc (length before) → self.old ≡ progress_of before → TakesOrStops result before self.new (said line.entry) }
+        ensures { (before : List said.MediaLine) → number ≡ suc (length before)
+            → self.old ≡ progress_of before
+            → TakesOrStops result before self.new (said line.entry) }
     {
         match line {
             MediaLine::Duration(value) => Ok(self.take_duration(value, number)?),
@@ -97,7 +99,8 @@ impl ListState {
 
     fn take_version(&mut self, value: Option<u32>) -> Result<(), PlaylistFault>
         requires { ForSome value (λ n. (1 ≤ n) × (n ≤ 65535)) }
-        ensures { (before : List said.MediaLine) → self.old ≡ progress_of before → Takes result before self.new (said.Version value) }
+        ensures { (before : List said.MediaLine) → self.old ≡ progress_of before
+            → Takes result before self.new (said.Version value) }
     {
         if self.has_version {
             return Err(PlaylistFault::Repeat);
@@ -111,7 +114,8 @@ impl ListState {
     }
 
     fn take_target(&mut self, value: Option<u64>) -> Result<(), PlaylistFault>
-        ensures { (before : List said.MediaLine) → self.old ≡ progress_of before → Takes result before self.new (said.Target value) }
+        ensures { (before : List said.MediaLine) → self.old ≡ progress_of before
+            → Takes result before self.new (said.Target value) }
     {
         if self.has_target {
             return Err(PlaylistFault::Repeat);
@@ -125,7 +129,8 @@ impl ListState {
     }
 
     fn take_sequence(&mut self, value: Option<u64>) -> Result<(), PlaylistFault>
-        ensures { (before : List said.MediaLine) → self.old ≡ progress_of before → Takes result before self.new (said.Sequence value) }
+        ensures { (before : List said.MediaLine) → self.old ≡ progress_of before
+            → Takes result before self.new (said.Sequence value) }
     {
         if self.has_sequence {
             return Err(PlaylistFault::Repeat);
@@ -139,7 +144,8 @@ impl ListState {
     }
 
     fn take_kind(&mut self, vod: bool) -> Result<(), PlaylistFault>
-        ensures { (before : List said.MediaLine) → self.old ≡ progress_of before → Takes result before self.new (said.Kind vod) }
+        ensures { (before : List said.MediaLine) → self.old ≡ progress_of before
+            → Takes result before self.new (said.Kind vod) }
     {
         if self.has_kind {
             return Err(PlaylistFault::Repeat);
@@ -152,7 +158,8 @@ impl ListState {
     }
 
     fn take_end(&mut self) -> Result<(), PlaylistFault>
-        ensures { (before : List said.MediaLine) → self.old ≡ progress_of before → Takes result before self.new said.End }
+        ensures { (before : List said.MediaLine) → self.old ≡ progress_of before
+            → Takes result before self.new said.End }
     {
         if self.has_end {
             return Err(PlaylistFault::Repeat);
@@ -162,7 +169,8 @@ impl ListState {
     }
 
     fn take_cut(&mut self)
-        ensures { (before : List said.MediaLine) → self.old ≡ progress_of before → self.new ≡ progress_of (said.Cut ∷ before) }
+        ensures { (before : List said.MediaLine) → self.old ≡ progress_of before
+            → self.new ≡ progress_of (said.Cut ∷ before) }
     {
         self.cut = true;
     }
@@ -170,7 +178,8 @@ impl ListState {
     /// The line of the duration has this number.
     fn take_duration(&mut self, value: Option<u64>, line: u32) -> Result<(), PlaylistFault>
         requires { ForSome value (λ n. n < 10 ^ 16) }
-        ensures { (before : List said.MediaLine) → line ≡ suc (length before) → self.old ≡ progress_of before → Takes result before self.new (said.Duration value) }
+        ensures { (before : List said.MediaLine) → line ≡ suc (length before)
+            → self.old ≡ progress_of before → Takes result before self.new (said.Duration value) }
     {
         if self.waiting.is_some() {
             return Err(PlaylistFault::TwoDurations);
@@ -184,7 +193,8 @@ impl ListState {
 
     fn take_uri(&mut self, alloc: Global, uri: &str) -> Result<(), LineError>
         requires { stands_as_uri uri.now ≡ true }
-        ensures { (before : List said.MediaLine) → self.old ≡ progress_of before → TakesOrStops result before self.new (said.Uri uri.now) }
+        ensures { (before : List said.MediaLine) → self.old ≡ progress_of before
+            → TakesOrStops result before self.new (said.Uri uri.now) }
     {
         let Some(waiting) = self.waiting else {
             return Err(LineError::Faulty(PlaylistFault::NoDuration));
@@ -206,7 +216,8 @@ impl ListState {
 
     /// The list, where nothing is missing after the last line.
     pub(crate) fn finish(self) -> Result<MediaList, PlaylistError>
-        ensures { (before : List said.MediaLine) → 0 < length before → self ≡ progress_of before → Ends result before }
+        ensures { (before : List said.MediaLine) → 0 < length before → self ≡ progress_of before
+            → Ends result before }
     {
         if let Some(waiting) = self.waiting {
             return Err(PlaylistError::Line {

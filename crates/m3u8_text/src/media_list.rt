@@ -41,7 +41,8 @@ impl MediaList {
         target: u64,
         sequence: u64,
     ) -> Result<MediaList, ListError>
-        ensures made { IfOk result (λ l. l ≡ record { version = version; target = target; sequence = sequence; segments = [] }) }
+        ensures made { IfOk result (λ l. l
+            ≡ record { version = version; target = target; sequence = sequence; segments = [] }) }
         ensures allowed { IsOk result ↔ ((1 ≤ version) × (version ≤ 65535)) }
     {
         if version < 1 || version > 65_535 {
@@ -69,7 +70,8 @@ impl MediaList {
 
     /// Adds a segment behind the others. A refused segment is dropped, and the list stays as it was.
     pub fn push(&mut self, segment: Segment) -> Result<(), PushError>
-        ensures added { OnOk result (self.new ≡ record self.old { segments = self.old.segments ++ segment ∷ [] }) }
+        ensures added { OnOk result (self.new
+            ≡ record self.old { segments = self.old.segments ++ segment ∷ [] }) }
         ensures kept { OnErr result (self.new ≡ self.old) }
         ensures full { IsErrOf result push_errors.Full ↔ (100000 ≤ length self.old.segments) }
     {

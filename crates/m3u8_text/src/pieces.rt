@@ -42,8 +42,10 @@ impl Pieces {
     /// Takes the next piece. After the first fault it passes over what comes.
     pub(crate) fn take(&mut self, piece: &[u8]) -> Result<(), Memory>
         requires { self.old.reader.lines + vec_len self.old.tail + length piece.now < 2 ^ 32 }
-        ensures stands { (before : List ℕ) → StandsAt self.old before → OnOk result (StandsAt self.new (before ++ piece.now)) }
-        ensures room { OnOk result (self.new.reader.lines + vec_len self.new.tail ≤ self.old.reader.lines + vec_len self.old.tail + length piece.now) }
+        ensures stands { (before : List ℕ) → StandsAt self.old before
+            → OnOk result (StandsAt self.new (before ++ piece.now)) }
+        ensures room { OnOk result (self.new.reader.lines + vec_len self.new.tail
+            ≤ self.old.reader.lines + vec_len self.old.tail + length piece.now) }
     {
         let mut rest = piece;
         'lines: while let Some((end, after)) = cut_feed(rest) {
@@ -55,10 +57,13 @@ impl Pieces {
 
     /// Takes the bytes up to a line feed, and the line feed.
     fn end_line(&mut self, end: &[u8]) -> Result<(), Memory>
-        requires room { self.old.reader.lines + vec_len self.old.tail + length end.now + 1 < 2 ^ 32 }
+        requires room { self.old.reader.lines + vec_len self.old.tail + length end.now + 1
+            < 2 ^ 32 }
         requires one { IsOneLine end.now }
-        ensures stands { (before : List ℕ) → StandsAt self.old before → OnOk result (StandsAt self.new (before ++ (end.now ++ 10 ∷ []))) }
-        ensures room { OnOk result (self.new.reader.lines + vec_len self.new.tail ≤ self.old.reader.lines + vec_len self.old.tail + length end.now + 1) }
+        ensures stands { (before : List ℕ) → StandsAt self.old before
+            → OnOk result (StandsAt self.new (before ++ (end.now ++ 10 ∷ []))) }
+        ensures room { OnOk result (self.new.reader.lines + vec_len self.new.tail
+            ≤ self.old.reader.lines + vec_len self.old.tail + length end.now + 1) }
     {
         if self.fault.is_some() {
             return Ok(());
@@ -81,11 +86,14 @@ impl Pieces {
     /// Takes the line that ends with these bytes: out of the piece where it stands whole in it.
     fn take_line(&mut self, end: &[u8]) -> Result<(), LineError>
         requires { self.old.reader.lines + 1 < 2 ^ 32 }
-        ensures line { (before : List MediaLine) → StandsFor self.old.reader before → TakesLine result before self.new.reader (media_line (strip_carriage_return (self.old.tail.items ++ end.now))) }
+        ensures line { (before : List MediaLine) → StandsFor self.old.reader before
+            → TakesLine result before self.new.reader
+            (media_line (strip_carriage_return (self.old.tail.items ++ end.now))) }
         ensures number { HasTaken result self.old.reader.lines self.new.reader.lines }
         ensures tail { OnOk result (self.new.tail.items ≡ []) }
         ensures fault { self.new.fault ≡ self.old.fault }
-        ensures room { self.new.reader.lines + vec_len self.new.tail ≤ self.old.reader.lines + vec_len self.old.tail + length end.now + 1 }
+        ensures room { self.new.reader.lines + vec_len self.new.tail
+            ≤ self.old.reader.lines + vec_len self.old.tail + length end.now + 1 }
     {
         if self.tail.is_empty() {
             return self.reader.take(self.alloc, without_return(end));
@@ -100,8 +108,10 @@ impl Pieces {
     /// Takes bytes without a line feed.
     fn keep(&mut self, rest: &[u8]) -> Result<(), Memory>
         requires { IsOneLine rest.now }
-        ensures stands { (before : List ℕ) → StandsAt self.old before → OnOk result (StandsAt self.new (before ++ rest.now)) }
-        ensures room { OnOk result (self.new.reader.lines + vec_len self.new.tail ≤ self.old.reader.lines + vec_len self.old.tail + length rest.now) }
+        ensures stands { (before : List ℕ) → StandsAt self.old before
+            → OnOk result (StandsAt self.new (before ++ rest.now)) }
+        ensures room { OnOk result (self.new.reader.lines + vec_len self.new.tail
+            ≤ self.old.reader.lines + vec_len self.old.tail + length rest.now) }
     {
         if self.fault.is_some() {
             return Ok(());
@@ -144,8 +154,10 @@ fn end(alloc: Global, mut reader: LineReader, tail: &[u8]) -> Result<MediaList, 
 
 /// The bytes in front of the first line feed and those behind it; `None` where there is none.
 fn cut_feed(bytes: &[u8]) -> Option<(&[u8], &[u8])>
-    ensures parts { MatchOption result (IsOneLine bytes.now) (λ cut. (bytes.now ≡ cut.0.now ++ 10 ∷ cut.1.now) × IsOneLine cut.0.now) }
-    ensures shorter { IfSome result (λ cut. length cut.0.now + length cut.1.now + 1 ≡ length bytes.now) }
+    ensures parts { MatchOption result (IsOneLine bytes.now) (λ cut. (bytes.now
+        ≡ cut.0.now ++ 10 ∷ cut.1.now) × IsOneLine cut.0.now) }
+    ensures shorter { IfSome result (λ cut. length cut.0.now + length cut.1.now + 1
+        ≡ length bytes.now) }
 {
     let place = place_of(bytes, b'\n')?;
     Some((&bytes[..place], &bytes[place + 1..]))

@@ -44,7 +44,8 @@ fn put_head(alloc: Global, out: &mut Vec<u8>, list: &MediaList) -> Result<(), Me
 
 /// Writes the lines of each segment.
 fn put_segments(alloc: Global, out: &mut Vec<u8>, segments: &[Segment]) -> Result<(), Memory>
-    ensures { OnOk result (out.new.items ≡ out.old.items ++ flat_map fed (flat_map segment_lines segments.now)) }
+    ensures { OnOk result (out.new.items
+        ≡ out.old.items ++ flat_map fed (flat_map segment_lines segments.now)) }
 {
     for segment in segments {
         put_segment(alloc, out, segment)?;
@@ -55,7 +56,8 @@ fn put_segments(alloc: Global, out: &mut Vec<u8>, segments: &[Segment]) -> Resul
 /// Writes the lines of one segment.
 #[tactic(auto, using(std::proofs::Common::append_assoc))]
 fn put_segment(alloc: Global, out: &mut Vec<u8>, segment: &Segment) -> Result<(), Memory>
-    ensures { OnOk result (out.new.items ≡ out.old.items ++ flat_map fed (segment_lines segment.now)) }
+    ensures { OnOk result (out.new.items
+        ≡ out.old.items ++ flat_map fed (segment_lines segment.now)) }
 {
     put_cut(out, segment.cut())?;
     put_duration(alloc, out, segment.micros())?;

@@ -24,7 +24,8 @@ pub fn withdrawn_text<S: Shelf, Q: Ledger>(
     looks: &mut Steps<Q>,
 ) -> Result<Vec<u8>, Refusal>
     requires { IsTrue (is_name register.now) }
-    ensures { Follows (withdraw register.now name.now out.now) (store S.holds S.counts shelf.old) (store S.holds S.counts shelf.new)
+    ensures { Follows (withdraw register.now name.now out.now) (store S.holds S.counts shelf.old)
+        (store S.holds S.counts shelf.new)
         (seen (λ text. Exactly text.items) result) }
 {
     if out == register {

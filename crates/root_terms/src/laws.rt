@@ -24,15 +24,19 @@ pub fn laws_of_constants<F>()
 /// Digits below the size of their system, of which only that of zero is 0.
 pub fn laws_of_numbers<F>()
     // the same number, the same coefficients
-    ensures { (ring : Ring F) (digit : F → ℕ) (size : ℕ) → digit ring.nil ≡ 0 → ((x y : F) → digit x ≡ digit y → x ≡ y)
-        → ((x : F) → digit x < size) → (xs ys : List F) → number_of digit size xs ≡ number_of digit size ys
+    ensures { (ring : Ring F) (digit : F → ℕ) (size : ℕ) → digit ring.nil ≡ 0
+        → ((x y : F) → digit x ≡ digit y → x ≡ y)
+        → ((x : F) → digit x < size) → (xs ys : List F)
+        → number_of digit size xs ≡ number_of digit size ys
         → (i : ℕ) → coefficients ring xs i ≡ coefficients ring ys i }
 {}
 
 /// Entries with all y-roots, sorted by their numbers.
 pub fn laws_of_orders<F, X>()
-    ensures { (ring : Ring F) (digit : F → ℕ) (size : ℕ) → digit ring.nil ≡ 0 → ((x y : F) → digit x ≡ digit y → x ≡ y)
-        → ((x : F) → digit x < size) → (number : X → ℕ) (root : X → List F) (q : Bivariate F) (k : ℕ)
+    ensures { (ring : Ring F) (digit : F → ℕ) (size : ℕ) → digit ring.nil ≡ 0
+        → ((x y : F) → digit x ≡ digit y → x ≡ y)
+        → ((x : F) → digit x < size) → (number : X → ℕ) (root : X
+        → List F) (q : Bivariate F) (k : ℕ)
         (lists : List (List F)) (entries sorted : List X) → AreYRootLists ring q k lists
         → AreNumbered ring digit size number root lists entries → IsPermutation entries sorted
         → IsNonDecreasingBy number sorted → AreYRoots ring digit size q k (map root sorted) }
@@ -40,5 +44,6 @@ pub fn laws_of_orders<F, X>()
 
 /// The products of a whole search, where d is the greatest power of y.
 pub fn laws_of_bounds()
-    ensures { (k d e : ℕ) → 1 ≤ k → search_bound k d (d + 1) e ≤ k * ((d + 1) * (d + 1) * (256 + e * (d + 1))) }
+    ensures { (k d e : ℕ) → 1 ≤ k
+        → search_bound k d (d + 1) e ≤ k * ((d + 1) * (d + 1) * (256 + e * (d + 1))) }
 {}

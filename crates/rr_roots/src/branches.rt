@@ -19,7 +19,8 @@ pub fn branch<F: Field, P: Ledger>(
     prods: &mut Steps<P>,
 ) -> Result<BiPoly<F>, Memory>
     requires reduced { IsReduced F.ring q.now }
-    requires root { value F.ring (greatest y_power q.now + 1) (at_zero F.ring q.now) constant ≡ F.ring.nil }
+    requires root { value F.ring (greatest y_power q.now + 1) (at_zero F.ring q.now) constant
+        ≡ F.ring.nil }
     requires room { greatest x_power q.now + greatest y_power q.now < 65536 }
     ensures branch { IfOk result (λ child. IsBranch F.ring q.now constant child) }
     ensures products { prods.new ≤ prods.old + shift_bound q.now }

@@ -21,7 +21,8 @@ pub struct Entry<F: Field> {
 /// The lists as polynomials with their numbers.
 pub fn numbered<F: Field>(alloc: Global, lists: &[Elements<F>]) -> Result<Vec<Entry<F>>, Memory>
     requires { All (λ list. length list ≤ 13) lists.now }
-    ensures { IfOk result (λ entries. AreNumbered F.ring F.number F.Q (λ entry. entry.number) (λ entry. entry.root) lists.now entries.items) }
+    ensures { IfOk result (λ entries. AreNumbered F.ring F.number F.Q (λ entry. entry.number)
+        (λ entry. entry.root) lists.now entries.items) }
 {
     let mut entries = Vec::with_capacity(alloc, lists.len())?;
     'lists: for i in 0..lists.len() {

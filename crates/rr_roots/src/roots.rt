@@ -31,7 +31,8 @@ pub fn poly_roots<F: Field, P: Ledger>(
     requires most_k { k ≤ 13 }
     ensures these { IfOk result (λ roots. AreYRoots F.ring F.number F.Q q.now k roots) }
     ensures few { IfOk result (λ roots. length roots ≤ greatest y_power q.now) }
-    ensures products { (e : ℕ) → greatest (weight_by (k - 1)) q.now < e → let y = greatest y_power q.now + 1 in
+    ensures products { (e : ℕ) → greatest (weight_by (k - 1)) q.now < e
+        → let y = greatest y_power q.now + 1 in
         prods.new ≤ prods.old + k * (y * y * (256 + e * y)) }
 {
     let lists = all_lists(alloc, q, k, prods)?;
@@ -53,7 +54,8 @@ fn all_lists<F: Field, P: Ledger>(
     requires most_k { k ≤ 13 }
     ensures these { IfOk result (λ lists. AreYRootLists F.ring q.now k lists.items) }
     ensures few { IfOk result (λ lists. length lists.items ≤ greatest y_power q.now) }
-    ensures products { (e : ℕ) → greatest (weight_by (k - 1)) q.now < e → let y = greatest y_power q.now + 1 in
+    ensures products { (e : ℕ) → greatest (weight_by (k - 1)) q.now < e
+        → let y = greatest y_power q.now + 1 in
         prods.new ≤ prods.old + k * (y * y * (256 + e * y)) }
 {
     q.tell();

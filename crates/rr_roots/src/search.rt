@@ -22,9 +22,11 @@ pub fn root_lists<F: Field, P: Ledger>(
     requires room { greatest x_power q.now + count * greatest y_power q.now < 65536 }
     ensures these { IfOk result (λ lists. AreYRootLists F.ring q.now count lists.items) }
     // no more than the degree of Q(0, y); after the last coefficient there may be one even where that is 0
-    ensures few { (d : ℕ) → 1 ≤ d + count → IsNarrow F.ring d q.now → IfOk result (λ lists. length lists.items ≤ d) }
+    ensures few { (d : ℕ) → 1 ≤ d + count → IsNarrow F.ring d q.now
+        → IfOk result (λ lists. length lists.items ≤ d) }
     ensures products { (d y e : ℕ) → IsNarrow F.ring d q.now → greatest y_power q.now < y
-        → greatest (weight_by (count - 1)) q.now < e → prods.new ≤ prods.old + search_bound count d y e }
+        → greatest (weight_by (count - 1)) q.now < e
+        → prods.new ≤ prods.old + search_bound count d y e }
 {
     if count == 0 {
         return last_lists(alloc, q);
@@ -62,7 +64,8 @@ fn add_each<F: Field>(
     constant: F,
     tails: &[Elements<F>],
 ) -> Result<(), Memory>
-    ensures { OnOk result (found.new.items ≡ found.old.items ++ map (λ tail. constant ∷ tail) tails.now) }
+    ensures { OnOk result (found.new.items
+        ≡ found.old.items ++ map (λ tail. constant ∷ tail) tails.now) }
 {
     'tails: for i in 0..tails.len() {
         found.push(led_by(alloc, constant, tails[i].as_slice())?)?;

@@ -37,7 +37,8 @@ impl<F: Field> Code<F> {
     /// The code with `n` places whose messages have `k` coefficients. It takes no memory.
     pub fn new(n: u32, k: u32) -> Result<Code<F>, CodeError>
         ensures bad_k { IsErrOf result CodeError.BadK ↔ ((k < 2) ⊎ (13 < k)) }
-        ensures bad_n { IsErrOf result CodeError.BadN ↔ ((2 ≤ k) × (k ≤ 13) × ((n < 1) ⊎ (F.Q < n))) }
+        ensures bad_n { IsErrOf result CodeError.BadN
+            ↔ ((2 ≤ k) × (k ≤ 13) × ((n < 1) ⊎ (F.Q < n))) }
         ensures made { IfOk result (λ code. code ≡ record { places = n; dimension = k }) }
     {
         if !(2..=13).contains(&k) {
@@ -118,7 +119,8 @@ impl<F: Field> Code<F> {
     ) -> Result<Places, Memory>
         requires length { length word.now ≡ self.now.places }
         requires message { message < 2 ^ (F.BITS * self.now.dimension) }
-        ensures value { IfOk result (λ places. places ≡ places_of F.BITS self.now.dimension message word.now) }
+        ensures value { IfOk result (λ places. places
+            ≡ places_of F.BITS self.now.dimension message word.now) }
         ensures products { prods.new ≤ prods.old + self.now.places * self.now.dimension }
     {
         let mut places = Vec::new(alloc);
@@ -137,7 +139,8 @@ impl<F: Field> Code<F> {
         prods: &mut Steps<P>,
     ) -> Result<Word, Memory>
         requires { message < 2 ^ (F.BITS * self.now.dimension) }
-        ensures value { IfOk result (λ word. word ≡ codeword_of F.BITS self.now.dimension message self.now.places) }
+        ensures value { IfOk result (λ word. word
+            ≡ codeword_of F.BITS self.now.dimension message self.now.places) }
         ensures products { prods.new ≤ prods.old + self.now.places * self.now.dimension }
     {
         let mut slots = Vec::new(alloc);
@@ -153,7 +156,8 @@ impl<F: Field> Code<F> {
         requires { length coefs.now ≤ self.now.dimension }
         ensures value { result ≡ packed F.BITS (map F.number coefs.now) }
         ensures small { result < 2 ^ (F.BITS * self.now.dimension) }
-        ensures coefficients { (j : ℕ) → coefficient F.BITS result j ≡ slice_index (map F.number coefs.now) j }
+        ensures coefficients { (j : ℕ)
+            → coefficient F.BITS result j ≡ slice_index (map F.number coefs.now) j }
     {
         let _dimension = self.dimension;
         Message::of(packed_number(coefs.as_slice()))
@@ -210,7 +214,8 @@ fn packed_number<F: Field>(coefs: &[F]) -> u128
 
 /// Puts the place behind the others where it is one of them.
 fn push_if(places: &mut Vec<u16>, place: u16, is_one: bool) -> Result<(), AllocError>
-    ensures { OnOk result (places.new.items ≡ places.old.items ++ (if is_one then place ∷ [] else [])) }
+    ensures { OnOk result (places.new.items
+        ≡ places.old.items ++ (if is_one then place ∷ [] else [])) }
 {
     if is_one {
         places.push(place)?;

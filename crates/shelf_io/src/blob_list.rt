@@ -30,7 +30,8 @@ pub(crate) fn store(
     name: &str,
     bytes: &[u8],
 ) -> Result<(), Memory>
-    ensures done { OnOk result (blobs_of blobs.new.items ≡ insert (blobs_of blobs.old.items) name.now bytes.now) }
+    ensures done { OnOk result (blobs_of blobs.new.items
+        ≡ insert (blobs_of blobs.old.items) name.now bytes.now) }
     ensures refused { OnErr result (blobs.new.items ≡ blobs.old.items) }
 {
     let bytes = Vec::from_slice(alloc, bytes)?;

@@ -35,7 +35,8 @@ impl CallPlan {
 
     /// Lets the call of this number fail, counted from 1.
     pub(crate) fn fail(&mut self, call: u64) -> Result<(), Memory>
-        ensures done { OnOk result (self.new ≡ record { failing = self.old.failing ++ call ∷ []; made = self.old.made }) }
+        ensures done { OnOk result (self.new
+            ≡ record { failing = self.old.failing ++ call ∷ []; made = self.old.made }) }
         ensures refused { OnErr result (self.new ≡ self.old) }
     {
         self.failing.push(call)?;

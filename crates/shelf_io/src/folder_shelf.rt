@@ -69,8 +69,10 @@ impl<R: Files + Drop> Shelf for FolderShelf<R> {
         requires name { IsTrue (is_name name.now) }
         requires some { 1 ≤ most }
         ensures most { IfOk result (λ part. length part.items ≤ most) }
-        ensures causes { ReadCauses self.old self.new name.now (part_failed result) (part_missed result) }
-        ensures after { self.new ≡ counted_read self.old name.now (part_failed result) (part_missed result) }
+        ensures causes { ReadCauses self.old self.new name.now (part_failed result)
+            (part_missed result) }
+        ensures after { self.new ≡ counted_read self.old name.now (part_failed result)
+            (part_missed result) }
         ensures refused { leaves_folder name.now ≡ true → result ≡ Err ShelfError.Missing }
     {
         if leaves_folder(name) {

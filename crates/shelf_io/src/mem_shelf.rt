@@ -42,7 +42,12 @@ impl Model for MemShelf {
 impl MemShelf {
     /// A store that holds nothing, and of which no call is to fail.
     pub fn new(alloc: Global) -> Self
-        ensures { result ≡ record { blobs = empty; plan = record { failing = []; made = 0 }; counts = no_counts } }
+        ensures { result ≡ record {
+          blobs = empty;
+          plan = record { failing = []; made = 0 };
+          counts
+              = no_counts;
+        } }
     {
         MemShelf {
             alloc,
@@ -54,7 +59,13 @@ impl MemShelf {
 
     /// Lets the call of this number fail.
     pub fn fail(&mut self, call: u64) -> Result<(), Memory>
-        ensures done { OnOk result (self.new ≡ record self.old { plan = record self.old.plan { failing = self.old.plan.failing ++ call ∷ [] } }) }
+        ensures done { OnOk result (self.new
+            ≡ record self.old {
+              plan = record self.old.plan {
+                failing = self.old.plan.failing
+                    ++ call ∷ [];
+              };
+            }) }
         ensures refused { OnErr result (self.new ≡ self.old) }
     {
         self.plan.fail(call)
@@ -62,7 +73,8 @@ impl MemShelf {
 
     /// Makes these bytes the blob of the name. It is no counted call.
     pub fn hold(&mut self, name: &str, bytes: &[u8]) -> Result<(), Memory>
-        ensures done { OnOk result (self.new ≡ record self.old { blobs = insert self.old.blobs name.now bytes.now }) }
+        ensures done { OnOk result (self.new
+            ≡ record self.old { blobs = insert self.old.blobs name.now bytes.now }) }
         ensures refused { OnErr result (self.new ≡ self.old) }
     {
         store(&mut self.blobs, self.alloc, name, bytes)
@@ -87,11 +99,14 @@ impl Shelf for MemShelf {
         requires name { IsTrue (is_name name.now) }
         requires some { 1 ≤ most }
         ensures most { IfOk result (λ part. length part.items ≤ most) }
-        ensures bytes { PartGives (λ part. part.items) (Some self.old.blobs) name.now from most result }
+        ensures bytes { PartGives (λ part. part.items) (Some self.old.blobs) name.now from most
+            result }
         ensures same { Some self.new.blobs ≡ Some self.old.blobs }
-        ensures causes { ReadCauses self.old.counts self.new.counts name.now (part_failed result) (part_missed result) }
+        ensures causes { ReadCauses self.old.counts self.new.counts name.now (part_failed result)
+            (part_missed result) }
         ensures fails { part_failed result ≡ fails_next self.old.plan }
-        ensures after { self.new ≡ after_part self.old name.now (part_failed result) (part_missed result) }
+        ensures after { self.new ≡ after_part self.old name.now (part_failed result)
+            (part_missed result) }
     {
         if self.plan.next_fails() {
             self.counts.read_failed(name);
@@ -112,11 +127,13 @@ impl Shelf for MemShelf {
     /// A call that is to fail, or for which there is not enough memory, changes no blob.
     fn write(&mut self, alloc: Global, name: &str, bytes: &[u8]) -> Result<(), ShelfError>
         requires { IsTrue (is_name name.now) }
-        ensures bytes { WriteGives (Some self.old.blobs) (Some self.new.blobs) name.now bytes.now result }
+        ensures bytes { WriteGives (Some self.old.blobs) (Some self.new.blobs) name.now bytes.now
+            result }
         ensures never_missing { result ≡ Err ShelfError.Missing → ⊥ }
         ensures causes { WriteCauses self.old.counts self.new.counts (write_failed result) }
         ensures fails { write_failed result ≡ fails_next self.old.plan }
-        ensures after { self.new ≡ after_write self.old name.now bytes.now (is_ok result) (write_failed result) }
+        ensures after { self.new ≡ after_write self.old name.now bytes.now (is_ok result)
+            (write_failed result) }
     {
         if self.plan.next_fails() {
             self.counts.write_failed();

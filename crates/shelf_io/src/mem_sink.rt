@@ -32,7 +32,12 @@ impl Model for MemSink {
 impl MemSink {
     /// An empty output, of which no put is to fail.
     pub fn new(alloc: Global) -> Self
-        ensures { result ≡ record { written = []; plan = record { failing = []; made = 0 }; faults = 0 } }
+        ensures { result ≡ record {
+          written = [];
+          plan = record { failing = []; made = 0 };
+          faults
+              = 0;
+        } }
     {
         MemSink {
             written: Vec::new(alloc),
@@ -43,7 +48,13 @@ impl MemSink {
 
     /// Lets the put of this number fail.
     pub fn fail(&mut self, call: u64) -> Result<(), Memory>
-        ensures done { OnOk result (self.new ≡ record self.old { plan = record self.old.plan { failing = self.old.plan.failing ++ call ∷ [] } }) }
+        ensures done { OnOk result (self.new
+            ≡ record self.old {
+              plan = record self.old.plan {
+                failing = self.old.plan.failing
+                    ++ call ∷ [];
+              };
+            }) }
         ensures refused { OnErr result (self.new ≡ self.old) }
     {
         self.plan.fail(call)

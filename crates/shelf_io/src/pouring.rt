@@ -24,11 +24,13 @@ pub fn pour<S: Shelf, T: Taker>(
     requires name { IsTrue (is_name name.now) }
     requires room { T.taken taker.old + limit + 65536 < 2 ^ 32 }
     // What the taker stands for then: what it stood for, and the whole blob, or a prefix of it.
-    ensures bytes { PourGives (T.stands taker.old) (T.stands taker.new) (S.holds shelf.old) name.now limit result }
+    ensures bytes { PourGives (T.stands taker.old) (T.stands taker.new) (S.holds shelf.old)
+        name.now limit result }
     ensures taken { T.taken taker.new ≤ T.taken taker.old + limit }
     ensures spent { IsSpentOnlyBefore (T.spent taker.old) (T.spent taker.new) result }
     ensures same { S.holds shelf.new ≡ S.holds shelf.old }
-    ensures causes { ReadCauses (S.counts shelf.old) (S.counts shelf.new) name.now (fetch_failed result) (fetch_missed result) }
+    ensures causes { ReadCauses (S.counts shelf.old) (S.counts shelf.new) name.now
+        (fetch_failed result) (fetch_missed result) }
 {
     let mut from = 0;
     'parts: loop {

@@ -33,7 +33,8 @@ pub trait Shelf {
         ensures most { IfOk result (λ part. length part.items ≤ most) }
         ensures bytes { PartGives (λ part. part.items) (holds self.old) name.now from most result }
         ensures same { holds self.new ≡ holds self.old }
-        ensures causes { ReadCauses (counts self.old) (counts self.new) name.now (part_failed result) (part_missed result) };
+        ensures causes { ReadCauses (counts self.old) (counts self.new) name.now
+            (part_failed result) (part_missed result) };
 
     /// Makes these bytes the blob of the name, in place of the one that it had.
     fn write(&mut self, alloc: Global, name: &str, bytes: &[u8]) -> Result<(), ShelfError>

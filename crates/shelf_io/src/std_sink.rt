@@ -49,7 +49,8 @@ impl<W: Write + Drop> Sink for StdSink<W> {
         ensures bytes { PutGives None None bytes.now result }
         ensures faults_stay { self.old.faults ≤ self.new.faults }
         ensures fault { result ≡ Err SinkError.Fault → Rose self.old.faults self.new.faults }
-        ensures counted { self.new.faults ≡ (if put_failed result then one_more self.old.faults else self.old.faults) }
+        ensures counted { self.new.faults
+            ≡ (if put_failed result then one_more self.old.faults else self.old.faults) }
         ensures appends { OnOk result (Appends self.old.contents self.new.contents bytes.now) }
         ensures never_memory { result ≡ Err SinkError.Memory → ⊥ }
     {

@@ -19,8 +19,10 @@ pub trait Taker {
     /// Takes the next piece. The only refusal is want of memory, also where it was spent before.
     fn take(&mut self, piece: &[u8]) -> Result<(), Memory>
         requires { taken self.old + length piece.now < 2 ^ 32 }
-        ensures stands { (before : List ℕ) → stands self.old before → OnOk result (stands self.new (before ++ piece.now)) }
-        ensures taken { taken self.new ≡ (if is_ok result then taken self.old + length piece.now else taken self.old) }
+        ensures stands { (before : List ℕ) → stands self.old before
+            → OnOk result (stands self.new (before ++ piece.now)) }
+        ensures taken { taken self.new
+            ≡ (if is_ok result then taken self.old + length piece.now else taken self.old) }
         ensures fresh { OnOk result (spent self.new ≡ false) }
         ensures spent { OnErr result (spent self.new ≡ true) }
         ensures stays_spent { spent self.old ≡ true → IsErr result };

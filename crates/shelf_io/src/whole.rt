@@ -23,7 +23,8 @@ pub fn fetch<S: Shelf>(
     ensures most { IfOk result (λ whole. length whole.items ≤ limit) }
     ensures bytes { FetchGives (λ whole. whole.items) (S.holds shelf.old) name.now limit result }
     ensures same { S.holds shelf.new ≡ S.holds shelf.old }
-    ensures causes { ReadCauses (S.counts shelf.old) (S.counts shelf.new) name.now (fetch_failed result) (fetch_missed result) }
+    ensures causes { ReadCauses (S.counts shelf.old) (S.counts shelf.new) name.now
+        (fetch_failed result) (fetch_missed result) }
 {
     let mut whole = Vec::new(alloc);
     'parts: loop {

@@ -20,6 +20,7 @@ pub fn names_fit_lines()
     ensures plain { (text : List ℕ) → is_plain text ≡ true → is_name text ≡ true }
     ensures some { (text : List ℕ) → is_name text ≡ true → 1 ≤ length text }
     ensures most { (text : List ℕ) → is_name text ≡ true → length text ≤ 1024 }
-    ensures no_control { (text : List ℕ) → is_name text ≡ true → All (λ b. (32 ≤ b) × (b ≢ 127)) text }
+    ensures no_control { (text : List ℕ) → is_name text ≡ true
+        → All (λ b. (32 ≤ b) × (b ≢ 127)) text }
     ensures no_line_feed { (text : List ℕ) → is_name text ≡ true → All (λ b. b ≢ 10) text }
 {}

@@ -38,9 +38,11 @@ pub fn accuse<S: Shelf, I: Interpolate, P: Ledger, Q: Ledger>(
 ) -> Result<Vec<u8>, Refusal>
     requires register { IsTrue (is_name register.now) }
     requires word { IsTrue (is_name word.now) }
-    ensures report { Follows (accuse register.now word.now c) (store S.holds S.counts shelf.old) (store S.holds S.counts shelf.new)
+    ensures report { Follows (accuse register.now word.now c) (store S.holds S.counts shelf.old)
+        (store S.holds S.counts shelf.new)
         (seen (λ text. text.items) result) }
-    ensures steps { Spends (curve_costs I.cost) (accuse_trace register.now word.now c) (store S.holds S.counts shelf.old)
+    ensures steps { Spends (curve_costs I.cost) (accuse_trace register.now word.now c)
+        (store S.holds S.counts shelf.old)
         (record { products = prods.old; looks = looks.old }) (record { products = prods.new; looks = looks.new }) }
 {
     let register = register_under(alloc, shelf, register)?;
@@ -77,7 +79,8 @@ fn report<I: Interpolate, P: Ledger, Q: Ledger>(
     requires most { length word.now ≤ 2 ^ register.now.bits }
     requires symbols { HasSymbolsBelow (2 ^ register.now.bits) word.now }
     requires bound { is_allowed_bound register.now.dimension bound ≡ true }
-    ensures report { Settles (seen (λ text. text.items) result) (report register.now word.now bound) }
+    ensures report { Settles (seen (λ text. text.items) result)
+        (report register.now word.now bound) }
     ensures steps { IsWithin (curve_costs I.cost) (trace_at register.now.dimension word.now bound)
         (record { products = prods.old; looks = looks.old }) (record { products = prods.new; looks = looks.new }) }
 {

@@ -23,7 +23,8 @@ pub fn write_report(alloc: Global, findings: &Findings) -> Result<Vec<u8>, Memor
 
 /// Ends the list of the accused, and adds the two numbers of a report.
 fn put_numbers(text: &mut String, bound: u32, readable: u32) -> Result<(), Memory>
-    ensures { OnOk result (string_bytes text.new ≡ string_bytes text.old ++ numbers_text bound readable) }
+    ensures { OnOk result (string_bytes text.new
+        ≡ string_bytes text.old ++ numbers_text bound readable) }
 {
     write!(text, "],\"bound\":{bound},\"readable\":{readable}}}\n")?;
     Ok(())
@@ -31,7 +32,8 @@ fn put_numbers(text: &mut String, bound: u32, readable: u32) -> Result<(), Memor
 
 /// The accused, with commas between them.
 fn put_list(text: &mut String, accused: &[Accused]) -> Result<(), Memory>
-    ensures { OnOk result (string_bytes text.new ≡ string_bytes text.old ++ comma_separated (map accused_text accused.now)) }
+    ensures { OnOk result (string_bytes text.new
+        ≡ string_bytes text.old ++ comma_separated (map accused_text accused.now)) }
 {
     'accused: for (i, one) in accused.iter().enumerate() {
         put_comma(text, i)?;
@@ -43,7 +45,8 @@ fn put_list(text: &mut String, accused: &[Accused]) -> Result<(), Memory>
 /// One of the accused.
 #[tactic(auto, unfolding(desk_terms::specs::Report::accused_text))]
 fn put_accused(text: &mut String, accused: &Accused) -> Result<(), Memory>
-    ensures { OnOk result (string_bytes text.new ≡ string_bytes text.old ++ accused_text accused.now) }
+    ensures { OnOk result (string_bytes text.new
+        ≡ string_bytes text.old ++ accused_text accused.now) }
 {
     let name = accused.name.as_str();
     let serial = accused.serial;
@@ -55,7 +58,8 @@ fn put_accused(text: &mut String, accused: &Accused) -> Result<(), Memory>
 
 /// Places, with commas between them.
 fn put_places(text: &mut String, places: &[u16]) -> Result<(), Memory>
-    ensures { OnOk result (string_bytes text.new ≡ string_bytes text.old ++ comma_separated (map decimal places.now)) }
+    ensures { OnOk result (string_bytes text.new
+        ≡ string_bytes text.old ++ comma_separated (map decimal places.now)) }
 {
     'places: for (i, place) in places.iter().enumerate() {
         put_comma(text, i)?;

@@ -26,7 +26,8 @@ pub fn word_under<S: Shelf>(
     register: &Register,
 ) -> Result<Word, Refusal>
     requires { IsTrue (is_name name.now) }
-    ensures word { Follows (word_under name.now register.now.bits) (store S.holds S.counts shelf.old) (store S.holds S.counts shelf.new) result }
+    ensures word { Follows (word_under name.now register.now.bits)
+        (store S.holds S.counts shelf.old) (store S.holds S.counts shelf.new) result }
     ensures least { IfOk result (λ word. 1 ≤ length word) }
     ensures most { IfOk result (λ word. length word ≤ 2 ^ register.now.bits) }
     ensures symbols { IfOk result (HasSymbolsBelow (2 ^ register.now.bits)) }

@@ -29,8 +29,10 @@ pub trait Book {
         message: Message,
         looks: &mut Steps<Q>,
     ) -> Option<(u32, Licensee<'_>)>
-        ensures some { IfSome result (λ found. slice_get (roll self.now).entries found.0 ≡ Some (record { message = message; name = found.1.name.now })) }
-        ensures none { IsNone result → All (λ entry. entry.message ≢ message) (roll self.now).entries }
+        ensures some { IfSome result (λ found. slice_get (roll self.now).entries found.0
+            ≡ Some (record { message = message; name = found.1.name.now })) }
+        ensures none { IsNone result → All (λ entry. entry.message
+            ≢ message) (roll self.now).entries }
         ensures kept { IsRoll (roll self.now) }
         ensures looks { looks.new ≡ looks.old + 1 };
 }

@@ -14,12 +14,14 @@ pub fn linear_curves_cost()
 
 /// A curve that is built point by point costs no more than its part of `iterative_product_bound`.
 pub fn iterative_curves_cost()
-    ensures { (cost : Params → ℕ) → ((p : Params) → cost p ≤ 8 * p.rows * ((p.e - 1) / p.w + 1) * p.cols)
+    ensures { (cost : Params → ℕ)
+        → ((p : Params) → cost p ≤ 8 * p.rows * ((p.e - 1) / p.w + 1) * p.cols)
         → (n k c r : ℕ) → r ≤ n → CostsAtMost cost k c r (iterative_curve_bound n k c) }
 {}
 
 /// Where a word of n places has enough readable ones, a trace by curves that are built point by point takes no more products
 /// than one by linear algebra may take.
 pub fn iterative_curves_cost_less()
-    ensures { (n k c r : ℕ) → AreEnough (k - 1) c r → r ≤ n → iterative_product_bound n k c ≤ product_bound n k c }
+    ensures { (n k c r : ℕ) → AreEnough (k - 1) c r → r ≤ n
+        → iterative_product_bound n k c ≤ product_bound n k c }
 {}

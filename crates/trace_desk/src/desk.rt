@@ -38,7 +38,8 @@ pub fn accuse<F: Field, B: Book, I: Interpolate, P: Ledger, Q: Ledger>(
     requires length { length word.now ≡ code.now.places }
     requires symbols { HasSymbolsBelow F.Q word.now }
     ensures findings { TracesAs result (tracing (B.roll book.now) word.now c) }
-    ensures products { (curve : ℕ) → CostsAtMost I.cost code.now.dimension c (readable word.now) curve
+    ensures products { (curve : ℕ)
+        → CostsAtMost I.cost code.now.dimension c (readable word.now) curve
         → prods.new ≤ prods.old + tracing_bound curve code.now.places code.now.dimension c }
     ensures looks { looks.new ≤ looks.old + look_bound code.now.places c }
 {
@@ -77,8 +78,10 @@ fn known<F: Field, B: Book, P: Ledger, Q: Ledger>(
     requires length { length word.now ≡ code.now.places }
     requires messages { All (λ u. u < 2 ^ (F.BITS * code.now.dimension)) messages.now }
     requires apart { AllPairs (λ u v. u ≢ v) messages.now }
-    ensures known { IfOk result (λ accused. AreKnown (B.roll book.now) word.now messages.now accused.items) }
-    ensures products { prods.new ≤ prods.old + length messages.now * (code.now.places * code.now.dimension) }
+    ensures known { IfOk result (λ accused. AreKnown (B.roll book.now) word.now messages.now
+        accused.items) }
+    ensures products { prods.new ≤ prods.old
+        + length messages.now * (code.now.places * code.now.dimension) }
     ensures looks { looks.new ≤ looks.old + length messages.now }
 {
     let mut accused = Vec::new(alloc);
@@ -112,8 +115,10 @@ fn look_up<F: Field, B: Book, P: Ledger, Q: Ledger>(
     requires dimension { code.now.dimension ≡ (B.roll book.now).dimension }
     requires length { length word.now ≡ code.now.places }
     requires message { message < 2 ^ (F.BITS * code.now.dimension) }
-    ensures known { OnOk result ((earlier : List ℕ) → AreKnown (B.roll book.now) word.now earlier accused.old.items
-        → (Contains earlier message → ⊥) → AreKnown (B.roll book.now) word.now (earlier ++ message ∷ []) accused.new.items) }
+    ensures known { OnOk result ((earlier : List ℕ)
+        → AreKnown (B.roll book.now) word.now earlier accused.old.items
+        → (Contains earlier message → ⊥)
+        → AreKnown (B.roll book.now) word.now (earlier ++ message ∷ []) accused.new.items) }
     ensures products { prods.new ≤ prods.old + code.now.places * code.now.dimension }
     ensures looks { looks.new ≡ looks.old + 1 }
 {
@@ -139,7 +144,13 @@ fn accusation<F: Field, P: Ledger>(
 ) -> Result<Accused, Memory>
     requires length { length word.now ≡ code.now.places }
     requires message { message < 2 ^ (F.BITS * code.now.dimension) }
-    ensures said { IfOk result (λ one. one ≡ record { serial = serial; name = name.now; places = places_of F.BITS code.now.dimension message word.now }) }
+    ensures said { IfOk result (λ one. one
+        ≡ record {
+          serial = serial;
+          name = name.now;
+          places = places_of F.BITS code.now.dimension
+              message word.now;
+        }) }
     ensures products { prods.new ≤ prods.old + code.now.places * code.now.dimension }
 {
     let name = Text::of(alloc, name)?;

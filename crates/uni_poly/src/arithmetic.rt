@@ -79,7 +79,8 @@ pub fn add_shifted<F: Field, P: Ledger>(
 )
     requires { at + length source.now ≤ length target.old }
     ensures length { length target.new ≡ length target.old }
-    ensures before { (k : ℕ) → k < at → coefficients F.ring target.new k ≡ coefficients F.ring target.old k }
+    ensures before { (k : ℕ) → k < at
+        → coefficients F.ring target.new k ≡ coefficients F.ring target.old k }
     ensures from { (k : ℕ) →
         coefficients F.ring target.new (at + k)
         ≡ F.ring.plus
