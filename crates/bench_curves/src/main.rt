@@ -33,6 +33,9 @@ struct Job {
     c: u32,
     r: u32,
     rounds: u32,
+    ghost least_k: { 2 ≤ k },
+    ghost most_k: { k ≤ 13 },
+    ghost few_points: { r ≤ 1024 },
 }
 
 fn read_work(word: &str) -> Option<Work> {
@@ -52,6 +55,9 @@ fn read_job(line: &str) -> Option<Job> {
     let c = words.next()?.parse::<u32>().ok()?;
     let r = words.next()?.parse::<u32>().ok()?;
     let rounds = words.next()?.parse::<u32>().ok()?;
+    if k < 2 || k > 13 || r > 1024 {
+        return None;
+    }
     Some(Job {
         work,
         k,
@@ -87,13 +93,15 @@ fn coalition<F: Field, P: Ledger>(
     job: Job,
     seed: u32,
     prods: &mut Steps<P>,
-) -> Result<Vec<(F, F)>, Memory> {
+) -> Result<Vec<(F, F)>, Memory>
+    ensures { IfOk result (λ points. length points.items ≡ job.r) }
+{
     let mut number = seed;
     let mut points = Vec::new(alloc);
-    for i in 0..job.r {
+    'points: for i in 0..job.r {
         let member = next(&mut number) % job.c.max(1);
         let x = element::<F>(i);
-        points.push((x, value(job.k, seed.wrapping_add(member * 77), x, prods)))?;
+        points.push((x, value(job.k, seed.wrapping_add(member.wrapping_mul(77)), x, prods)))?;
     }
     Ok(points)
 }
@@ -109,7 +117,9 @@ fn found<F: Field, P: Ledger>(
     points: &[(F, F)],
     chosen: &Params,
     prods: &mut Steps<P>,
-) -> Result<BiPoly<F>, Memory> {
+) -> Result<BiPoly<F>, Memory>
+    requires { length points.now ≡ chosen.now.r }
+{
     match job.work {
         Work::Linear => Linear.curve(alloc, points, chosen, prods),
         Work::Koetter => Koetter.curve(alloc, points, chosen, prods),
@@ -125,13 +135,16 @@ fn slices<F: Field, P: Ledger>(
 ) -> Result<u64, Memory> {
     let mut xs = vec![in alloc; F::one(); 1024]?;
     let ys = vec![in alloc; F::one(); 1024]?;
-    for round in 0..rounds {
+    'rounds: for round in 0..rounds {
         F::add_multiple(&mut xs, &ys, element(round), prods);
     }
     Ok(xs[0].to() as u64)
 }
 
 fn run<P: Ledger>(alloc: Global, job: Job, blank: Blank) -> Result<u64, Memory>
+    requires name { blank.name ≡ P.name }
+    requires parts { blank.parts ≡ P.parts }
+    requires some { 0 < P.parts }
 {
     let mut prods = Steps::<P>::new(blank);
     if let Work::Slices = job.work {

@@ -1,5 +1,5 @@
 -- The curves at the beginning.
-use Rattle.std.proofs.Common.{◌≡◌, ◌≢◌, ◌⊎◌, inl, inr, ℕ, zero, suc, ◌+◌, ◌-◌, ◌*◌, ◌/◌, ◌<◌, ◌≤◌, List, [], length, Option, None, Some, replicate, set, get_or, refl, ◌∙◌, sym, ap, subst, arith}
+use Rattle.std.proofs.Common.{◌≡◌, ◌⊎◌, inl, inr, ℕ, zero, suc, ◌+◌, ◌*◌, ◌/◌, ◌<◌, ◌≤◌, List, [], length, Option, None, Some, replicate, set, refl, ◌∙◌, sym, ap, subst, arith}
 use Rattle.std.proofs.lemmas.Bool.{cases_lt}
 use Rattle.std.proofs.lemmas.List.{get_or-replicate, get_or-set_other, get_or-set_same, get_or_past, length-replicate, length-set}
 use Rattle.std.proofs.Math.Nat.{le-div_iff_mul-le}
@@ -66,14 +66,14 @@ module _ {F : Type 0} (R : Ring F) (w e s : ℕ) where
     begun = new;
     is = refl;
     shape = record {
-        coefs = ap length coefs ∙ length-set old.coefs.items first unit ∙ lists.coefs;
-        tile = tile ∙ lists.tile;
-        len = len ∙ ap (λ n. n + 1) (at ∙ ap (λ x. place w x j) (sym exponent));
-        light = subst (λ x. x + w * j < e) (sym exponent) (omega (arith, light));
-        ends = λ k l.
-            let late : place w 0 j < k = subst (λ x. place w x j < k) exponent l in
-            ap (λ t. coefficients R t k) coefs ∙ get_or-set_other old.coefs.items first k unit nil (λ same. absurd (omega (arith, late, at, same))) ∙ zeros k;
-      };
+      coefs = ap length coefs ∙ length-set old.coefs.items first unit ∙ lists.coefs;
+      tile = tile ∙ lists.tile;
+      len = len ∙ ap (λ n. n + 1) (at ∙ ap (λ x. place w x j) (sym exponent));
+      light = subst (λ x. x + w * j < e) (sym exponent) (omega (arith, light));
+      ends = λ k l.
+          let late : place w 0 j < k = subst (λ x. place w x j < k) exponent l in
+          ap (λ t. coefficients R t k) coefs ∙ get_or-set_other old.coefs.items first k unit nil (λ same. absurd (omega (arith, late, at, same))) ∙ zeros k;
+    };
     exponent = exponent;
     one =
         let inside = place_below w e 0 j some (omega (arith, light)) in

@@ -1,5 +1,5 @@
 -- Derivatives of a curve from its table.
-use Rattle.std.proofs.Common.{◌≡◌, ◌≢◌, ◌⊎◌, inl, inr, ℕ, zero, suc, ◌+◌, ◌*◌, ◌<◌, ◌≤◌, List, length, take, Option, None, Some, get_or, refl, ◌∙◌, sym, ap, subst, arith}
+use Rattle.std.proofs.Common.{◌≡◌, ◌⊎◌, inl, inr, ℕ, zero, suc, ◌+◌, ◌*◌, ◌<◌, ◌≤◌, List, length, take, Option, None, Some, get_or, refl, ◌∙◌, sym, ap, subst, arith}
 use Rattle.std.proofs.lemmas.Bool.{cases_lt}
 use Rattle.std.proofs.lemmas.List.{get_or-take, get_or_default, get_or_past}
 use Rattle.algebra.specs.Lists.{coefficients}
@@ -14,12 +14,11 @@ use Rattle.koetter_terms.proofs.Derivatives.{derivative_same}
 use Rattle.koetter_terms.proofs.Orders.{handled_point}
 use Rattle.term_lists.specs.Places.{place}
 use Rattle.gs_koetter.specs.declared.curve.Curve.{Curve}
-use Rattle.gs_koetter.specs.Shapes.{HasShape, HaveShape, IsEnded, IsSpare, slot}
+use Rattle.gs_koetter.specs.Shapes.{HaveShape, IsEnded, slot}
 use Rattle.gs_koetter.specs.States.{AreDerived, IsBare, IsDerived, IsState, spent}
 use Rattle.gs_koetter.specs.Tables.{entry}
 use Rattle.gs_koetter.proofs.Prefixes.{take_length}
 use Rattle.gs_koetter.proofs.Pivots.{not_some, one_some}
-use Rattle.gs_koetter.proofs.Stepping.{ended}
 
 pub slot_is : {X : Type 0} (xs : List (Option X)) (k : ℕ) (x : X) (item : Option X) → k < length xs → item ≡ get_or xs k item → item ≡ Some x → get_or xs k None ≡ Some x
 slot_is xs k x item l is some = get_or_default xs k None item l ∙ sym is ∙ some

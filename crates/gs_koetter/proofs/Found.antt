@@ -1,5 +1,5 @@
 -- A curve that meets all conditions is what is looked for, and the products that it takes.
-use Rattle.std.proofs.Common.{◌≡◌, ◌≢◌, ◌⊎◌, inl, inr, ℕ, zero, suc, ◌+◌, ◌-◌, ◌*◌, ◌/◌, ◌<◌, ◌≤◌, List, length, Option, None, Some, Ok, Err, get_or, refl, ◌∙◌, sym, ap, ap₂, subst, arith}
+use Rattle.std.proofs.Common.{◌≡◌, ◌≢◌, ◌⊎◌, inl, inr, ℕ, zero, suc, ◌+◌, ◌-◌, ◌*◌, ◌/◌, ◌<◌, ◌≤◌, List, length, Option, None, Some, Ok, Err, refl, ◌∙◌, sym, ap, subst, arith}
 use Rattle.std.proofs.lemmas.Bool.{cases_lt}
 use Rattle.std.proofs.lemmas.List.{get_or_default}
 use Rattle.std.proofs.Math.Nat.{div-add-mod, mod-lt, mul-div-le, mul-le-mul_left, mul-le-mul_right}
@@ -9,7 +9,6 @@ use Rattle.std.specs.Result.{IfOk}
 use Rattle.std.specs.declared.result.Result.{Result}
 use Rattle.std.specs.Option.{unwrap_or}
 use Rattle.algebra.specs.Bivariate.{Bivariate, HasMultiplicity, IsWithin, coefficient, greatest, hasse_derivative, pair_cmp, weight, weight_by}
-use Rattle.algebra.specs.Lists.{coefficients}
 use Rattle.algebra.specs.Ring.{Ring}
 use Rattle.algebra.specs.Sums.{sum_below}
 use Rattle.algebra.proofs.Entries.{greatest_least, terms_sum}
@@ -22,7 +21,7 @@ use Rattle.algebra.specs.Roots.{total}
 use Rattle.gs_koetter.proofs.Ending.{terms_by_power}
 use Rattle.koetter_terms.specs.Curves.{curve}
 use Rattle.koetter_terms.specs.Derivatives.{derivative, derivative_at}
-use Rattle.koetter_terms.proofs.Derivatives.{derivative_is, derivative_same}
+use Rattle.koetter_terms.proofs.Derivatives.{derivative_is}
 use Rattle.koetter_terms.proofs.Steps.{past_weight}
 use Rattle.term_lists.specs.declared.exponents.Exponents.{Exponents}
 use Rattle.term_lists.specs.Places.{AreTermsBelow, exponents_at, place}

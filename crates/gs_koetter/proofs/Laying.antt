@@ -1,5 +1,5 @@
 -- Coefficients that are laid out in a table, and derivatives of its columns.
-use Rattle.std.proofs.Common.{◌≡◌, ◌≢◌, ◌⊎◌, inl, inr, ℕ, zero, suc, ◌+◌, ◌-◌, ◌*◌, ◌/◌, ◌<◌, ◌≤◌, List, length, set, get_or, take, drop, refl, ◌∙◌, sym, ap, ap₂, subst, arith}
+use Rattle.std.proofs.Common.{◌≡◌, ◌≢◌, ◌⊎◌, inl, inr, ℕ, suc, ◌+◌, ◌-◌, ◌*◌, ◌/◌, ◌<◌, ◌≤◌, List, length, set, get_or, take, drop, ◌∙◌, sym, ap, ap₂, subst, arith}
 use Rattle.std.proofs.lemmas.Bool.{cases_lt}
 use Rattle.std.proofs.lemmas.Bool.Decides.{eqb_tells}
 use Rattle.std.proofs.lemmas.List.{get_or_default, get_or-drop, get_or-set_other, get_or-set_same, get_or-take, length-drop}
@@ -8,7 +8,6 @@ use Rattle.algebra.specs.Bivariate.{weight}
 use Rattle.algebra.specs.Lists.{coefficients}
 use Rattle.algebra.specs.Ring.{Ring}
 use Rattle.algebra.specs.Roots.{total}
-use Rattle.algebra.specs.Sums.{sum_below}
 use Rattle.algebra.proofs.CoefficientLists.{coefficients_below}
 use Rattle.algebra.proofs.Sums.{sum_last, sum_none}
 use Rattle.algebra.proofs.RingLaws.{ring}
@@ -18,7 +17,7 @@ use Rattle.term_lists.proofs.Orders.{triangle}
 use Rattle.koetter_terms.specs.Curves.{IsSum, curve}
 use Rattle.koetter_terms.specs.Derivatives.{derivative, derivative_at}
 use Rattle.koetter_terms.proofs.Derivatives.{derivative_is, derivative_same}
-use Rattle.koetter_terms.proofs.Places.{place_next, place_same}
+use Rattle.koetter_terms.proofs.Places.{place_same}
 use Rattle.term_lists.specs.declared.exponents.Exponents.{Exponents}
 use Rattle.term_lists.specs.Places.{AreTermsBelow, exponents_at, place}
 use Rattle.gs_koetter.proofs.Prefixes.{take_length}

@@ -1,6 +1,5 @@
 -- Terms divided by x.
-use Rattle.std.proofs.Common.{◌≡◌, ◌≢◌, ℕ, zero, suc, ◌+◌, ◌-◌, ◌*◌, ◌/◌, ◌<◌, ◌≤◌, List, [], length, get_or, refl, ◌∙◌, sym, ap, subst, arith}
-use Rattle.decoding_terms.specs.Parameters.{term_count}
+use Rattle.std.proofs.Common.{◌≡◌, ◌≢◌, ℕ, zero, suc, ◌+◌, ◌-◌, ◌*◌, ◌/◌, ◌<◌, ◌≤◌, List, [], length, get_or, refl, ◌∙◌, ap, subst, arith}
 use Rattle.koetter_terms.specs.Curves.{AreQuotients}
 use Rattle.koetter_terms.proofs.Places.{place_next}
 use Rattle.term_lists.specs.declared.exponents.Exponents.{Exponents}

@@ -1,13 +1,12 @@
 -- A step from one state to the next.
 use Rattle.std.specs.Prelude.{slice_index_or}
-use Rattle.std.proofs.Common.{◌≡◌, ◌≢◌, ◌⊎◌, inl, inr, ℕ, zero, suc, ◌+◌, ◌-◌, ◌*◌, ◌<◌, ◌≤◌, List, length, Option, None, Some, refl, ◌∙◌, sym, ap, ap₂, subst, arith}
+use Rattle.std.proofs.Common.{◌≡◌, ◌≢◌, ◌⊎◌, inl, inr, ℕ, zero, suc, ◌+◌, ◌*◌, ◌<◌, ◌≤◌, List, Option, None, Some, refl, ◌∙◌, sym, ap, ap₂, subst, arith}
 use Rattle.std.proofs.lemmas.Bool.{cases_lt}
 use Rattle.std.proofs.lemmas.Bool.Decides.{eqb_tells}
 use Rattle.algebra.specs.Ring.{Ring}
 use Rattle.algebra.specs.Roots.{total}
 use Rattle.algebra.proofs.RingLaws.{nil_times, times_nil}
-use Rattle.decoding_terms.specs.Parameters.{term_count}
-use Rattle.koetter_terms.specs.Curves.{AreQuotients, IsSum, IsTile, curve}
+use Rattle.koetter_terms.specs.Curves.{AreQuotients, IsSum, curve}
 use Rattle.koetter_terms.specs.Derivatives.{derivative_at}
 use Rattle.koetter_terms.specs.State.{Conditions, IsKept}
 use Rattle.koetter_terms.proofs.Places.{place_same}

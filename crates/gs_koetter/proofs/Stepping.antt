@@ -1,5 +1,5 @@
 -- A pivot that is taken out, and what is put back.
-use Rattle.std.proofs.Common.{◌≡◌, ◌≢◌, inl, inr, ℕ, ◌+◌, ◌*◌, ◌<◌, ◌≤◌, List, length, Option, None, Some, set, get_or, ◌∙◌, sym, ap, ap₂, subst, arith}
+use Rattle.std.proofs.Common.{◌≡◌, ◌≢◌, inl, inr, ℕ, ◌+◌, ◌*◌, ◌<◌, ◌≤◌, List, length, Option, None, Some, set, get_or, ◌∙◌, sym, ap, subst, arith}
 use Rattle.std.proofs.lemmas.List.{get_or_default, get_or-set_other, get_or-set_same, length-set}
 use Rattle.std.proofs.lemmas.Bool.Decides.{eqb_tells}
 use Rattle.std.proofs.Math.Nat.{mul-le-mul_left}
@@ -7,7 +7,7 @@ use Rattle.algebra.specs.Ring.{Ring}
 use Rattle.decoding_terms.specs.Parameters.{term_count}
 use Rattle.term_lists.proofs.Ordered.{place_below}
 use Rattle.gs_koetter.specs.declared.curve.Curve.{Curve}
-use Rattle.gs_koetter.specs.Shapes.{AreCancelled, HasRoom, HasShape, HaveShape, IsEnded, slot}
+use Rattle.gs_koetter.specs.Shapes.{AreCancelled, HasRoom, HaveShape, IsEnded, slot}
 use Rattle.gs_koetter.specs.States.{step_products}
 use Rattle.gs_koetter.proofs.Pivots.{inside_some, not_some}
 

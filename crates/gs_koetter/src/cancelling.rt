@@ -47,7 +47,13 @@ fn cancel<F: Field, P: Ledger>(
     }
     let factor = value.mul(inverse, prods);
     add_front(&mut curve.coefs, &pivot.coefs, pivot.len, factor, prods);
-    add_front(&mut curve.tile, &pivot.tile, pivot.tile.len(), factor, prods);
+    add_front(
+        &mut curve.tile,
+        &pivot.tile,
+        pivot.tile.len(),
+        factor,
+        prods,
+    );
 }
 
 /// Makes the derivative at the place zero in each curve that is kept.

@@ -43,7 +43,12 @@ fn clear<F: Field>(table: &mut Vec<F>)
 }
 
 /// Puts the coefficient of x^i y^j in row i and column j of a table with so many columns, and zeros everywhere else.
-pub(crate) fn lay_out<F: Field>(table: &mut Vec<F>, coefs: &[F], monomials: &Monomials, width: usize)
+pub(crate) fn lay_out<F: Field>(
+    table: &mut Vec<F>,
+    coefs: &[F],
+    monomials: &Monomials,
+    width: usize,
+)
     requires few { length coefs.now ≤ length monomials.now.terms.items }
     requires size { length table.old.items ≡ monomials.now.e * width }
     requires wide { monomials.now.e ≤ monomials.now.w * width }
@@ -109,7 +114,11 @@ fn term<F: Field, P: Ledger>(
     ensures value { (a : F) → ArePowers F.ring a powers.now → result ≡ F.ring.times coef (weight F.ring a exponent order) }
     ensures products { prods.new ≤ prods.old + 1 }
 {
-    coef.mul(power_derivative(powers, exponent, order), prods)
+    let weight = power_derivative(powers, exponent, order);
+    if weight == F::zero() {
+        return weight;
+    }
+    coef.mul(weight, prods)
 }
 
 /// The derivative of this order of the polynomial with these coefficients.

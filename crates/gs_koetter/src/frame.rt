@@ -42,7 +42,12 @@ impl Monomials {
 }
 
 /// At each term's place the place of that term divided by x, or a number past all places.
-fn quotients(alloc: Global, w: usize, e: usize, terms: &[Exponents]) -> Result<Vec<usize>, AllocError>
+fn quotients(
+    alloc: Global,
+    w: usize,
+    e: usize,
+    terms: &[Exponents],
+) -> Result<Vec<usize>, AllocError>
     requires some { 1 ≤ w }
     requires light { w ≤ 12 }
     requires low { e ≤ 4096 }

@@ -108,10 +108,7 @@ fn first_curve<F: Field>(
 }
 
 /// The curves 1, y, y^2 and so on.
-fn first_curves<F: Field>(
-    alloc: Global,
-    frame: &Frame,
-) -> Result<Vec<Option<Curve<F>>>, AllocError>
+fn first_curves<F: Field>(alloc: Global, frame: &Frame) -> Result<Vec<Option<Curve<F>>>, AllocError>
     ensures { IfOk result (λ curves.
         IsExtended (IsBegun F.ring frame.now.terms.w frame.now.terms.e frame.now.orders.e) None [] frame.now.width curves.items) }
 {
@@ -132,12 +129,7 @@ fn scratch<F: Field>(alloc: Global, frame: &Frame) -> Result<Scratch<F>, AllocEr
     let ys = zeros(alloc, frame.width)?;
     let table = zeros(alloc, frame.terms.e * frame.width)?;
     let row = zeros(alloc, frame.width)?;
-    Ok(Scratch {
-        xs,
-        ys,
-        table,
-        row,
-    })
+    Ok(Scratch { xs, ys, table, row })
 }
 
 /// Where a curve is kept.

@@ -9,5 +9,7 @@ mod frame;
 mod koetter;
 mod points;
 mod raising;
+#[cfg(test)]
+mod tests;
 
 pub use koetter::Koetter;

@@ -71,7 +71,14 @@ pub(crate) fn raise<F: Field, P: Ledger>(
     ensures spare { IsSpare frame.now.terms.w frame.now.terms.e frame.now.orders.e spare.new }
     ensures products { prods.new ≤ prods.old + term_count frame.now.terms.w frame.now.terms.e }
 {
-    multiply(&mut spare.coefs, &curve.coefs, &frame.terms.quotients, curve.len, a, prods);
+    multiply(
+        &mut spare.coefs,
+        &curve.coefs,
+        &frame.terms.quotients,
+        curve.len,
+        a,
+        prods,
+    );
     mem::swap(&mut curve.coefs, &mut spare.coefs);
     shift(&mut spare.tile, &curve.tile, &frame.orders.quotients);
     mem::swap(&mut curve.tile, &mut spare.tile);

@@ -1,5 +1,5 @@
 -- A vector of the system's kernel is a curve.
-use Rattle.std.proofs.Common.{◌≡◌, ◌≢◌, ◌⊎◌, inl, inr, ℕ, zero, suc, ◌+◌, ◌-◌, ◌*◌, ◌/◌, ◌%◌, ◌<◌, ◌≤◌, List, [], None, Some, Ok, Err, IsNone, length, get_or, refl, ◌∙◌, sym, ap, subst, arith}
+use Rattle.std.proofs.Common.{◌≡◌, ◌≢◌, ◌⊎◌, inl, inr, ℕ, ◌+◌, ◌-◌, ◌*◌, ◌/◌, ◌%◌, ◌<◌, ◌≤◌, List, [], None, Some, Ok, Err, IsNone, length, get_or, refl, ◌∙◌, sym, ap, subst, arith}
 use Rattle.std.proofs.lemmas.Bool.{cases_lt}
 use Rattle.std.specs.FinMap.{empty, get-empty}
 use Rattle.std.specs.List.{All}
@@ -16,7 +16,7 @@ use Rattle.algebra.specs.Bivariate.{Bivariate, HasMultiplicity, coefficient, gre
 use Rattle.algebra.proofs.Sums.{sum_same}
 use Rattle.algebra.proofs.Entries.{greatest_least}
 use Rattle.decoding_terms.specs.Parameters.{equation_count, term_count}
-use Rattle.decoding_terms.proofs.Terms.{many, term_count-next}
+use Rattle.decoding_terms.proofs.Terms.{many}
 use Rattle.linear_solve.specs.Tables.{HaveLength, entries}
 use Rattle.system_terms.specs.Systems.{IsZero, Solves}
 use Rattle.term_lists.specs.declared.exponents.Exponents.{Exponents}

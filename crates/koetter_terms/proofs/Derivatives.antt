@@ -1,5 +1,5 @@
 -- Hasse derivatives of sums and of products with x + c.
-use Rattle.std.proofs.Common.{◌≡◌, ℕ, zero, suc, ◌+◌, ◌<◌, ◌≤◌, refl, ◌∙◌, sym, ap, ap₂, arith}
+use Rattle.std.proofs.Common.{◌≡◌, ℕ, suc, ◌+◌, ◌<◌, ◌≤◌, refl, ◌∙◌, sym, ap, ap₂, arith}
 use Rattle.algebra.specs.Bivariate.{weight}
 use Rattle.algebra.specs.Ring.{Ring}
 use Rattle.algebra.specs.Series.{IsBelow, linear, product}

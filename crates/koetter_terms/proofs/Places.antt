@@ -1,7 +1,6 @@
 -- The order of the terms.
 use Rattle.std.proofs.Common.{◌≡◌, ◌⊎◌, inl, inr, ℕ, suc, ◌+◌, ◌-◌, ◌*◌, ◌/◌, ◌<◌, ◌≤◌, ap, arith}
 use Rattle.std.proofs.lemmas.Bool.{cases_lt}
-use Rattle.std.proofs.Math.Nat.{mul-le-mul_left}
 use Rattle.decoding_terms.specs.Parameters.{term_count}
 use Rattle.decoding_terms.proofs.Terms.{term_count-next, term_count-rises}
 use Rattle.term_lists.specs.Places.{place}

@@ -1,13 +1,12 @@
 -- What a step keeps, and what it gains.
-use Rattle.std.proofs.Common.{◌≡◌, ◌≢◌, ◌⊎◌, inl, inr, ℕ, zero, suc, ◌+◌, ◌*◌, ◌<◌, ◌≤◌, List, length, get_or, refl, ◌∙◌, sym, ap, ap₂, arith}
+use Rattle.std.proofs.Common.{◌≡◌, ◌⊎◌, inl, inr, ℕ, zero, suc, ◌+◌, ◌*◌, ◌<◌, ◌≤◌, List, length, get_or, refl, ◌∙◌, sym, ap, ap₂, arith}
 use Rattle.std.proofs.lemmas.Bool.{cases_lt}
 use Rattle.algebra.specs.Lists.{coefficients}
 use Rattle.algebra.specs.Ring.{Ring}
 use Rattle.algebra.specs.Series.{IsBelow}
 use Rattle.algebra.proofs.CoefficientLists.{coefficients_below}
 use Rattle.algebra.proofs.Division.{linear_first, linear_next}
-use Rattle.algebra.proofs.RingLaws.{nil_times, plus_nil, plus_self, ring, times_nil}
-use Rattle.decoding_terms.specs.Parameters.{term_count}
+use Rattle.algebra.proofs.RingLaws.{nil_times, plus_nil, ring, times_nil}
 use Rattle.term_lists.specs.declared.exponents.Exponents.{Exponents}
 use Rattle.term_lists.specs.Places.{AreTermsBelow, exponents_at, place}
 use Rattle.term_lists.proofs.Ordered.{place_below}
@@ -15,7 +14,7 @@ use Rattle.koetter_terms.specs.Curves.{AreQuotients, EndsAt, IsRaised, IsSum, Is
 use Rattle.koetter_terms.specs.Derivatives.{derivative_at, plus_multiple, times_linear}
 use Rattle.koetter_terms.specs.State.{Conditions, IsKept, Meets}
 use Rattle.koetter_terms.proofs.Derivatives.{at_first, at_next, at_same, at_sum}
-use Rattle.koetter_terms.proofs.Places.{place_from, place_same, place_up}
+use Rattle.koetter_terms.proofs.Places.{place_from, place_up}
 
 module _ {F : Type 0} (R : Ring F) where
   infixl 60 ◌⊕◌

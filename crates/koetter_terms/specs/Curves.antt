@@ -1,6 +1,6 @@
 -- Polynomials in x and y as lists of coefficients in the order of their terms: by the weight of x^i y^j, which is i + w j, and then by the power of y.
 -- Source: R. Koetter's interpolation, as in R. McEliece, The Guruswami-Sudan decoding algorithm for Reed-Solomon codes (2003). The lists are this project's own.
-use Rattle.std.specs.Prelude.{◌≡◌, ◌≢◌, ℕ, suc, ◌+◌, ◌*◌, ◌<◌, ◌≤◌, List, length, slice_index_or}
+use Rattle.std.specs.Prelude.{◌≡◌, ℕ, suc, ◌+◌, ◌*◌, ◌<◌, ◌≤◌, List, length, slice_index_or}
 use Rattle.algebra.specs.Lists.{coefficients}
 use Rattle.algebra.specs.Ring.{Ring}
 use Rattle.decoding_terms.specs.Parameters.{term_count}

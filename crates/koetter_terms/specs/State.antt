@@ -1,6 +1,6 @@
 -- What a curve satisfies while conditions are handled one after the other.
 -- Source: R. Koetter's interpolation, as in R. McEliece, The Guruswami-Sudan decoding algorithm for Reed-Solomon codes (2003).
-use Rattle.std.specs.Prelude.{◌≡◌, ◌≢◌, ℕ, suc, ◌+◌, ◌*◌, ◌<◌, ◌⊎◌, List}
+use Rattle.std.specs.Prelude.{◌≡◌, ◌≢◌, ℕ, ◌+◌, ◌<◌, ◌⊎◌, List}
 use Rattle.algebra.specs.Ring.{Ring}
 use Rattle.koetter_terms.specs.Curves.{IsTile, curve}
 use Rattle.koetter_terms.specs.Derivatives.{derivative_at}

@@ -3,4 +3,4 @@
 
 mod laws;
 
-pub use laws::laws_of_steps;
+pub use laws::{laws_of_order, laws_of_steps};

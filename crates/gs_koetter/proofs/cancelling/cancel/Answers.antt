@@ -1,4 +1,4 @@
-use Rattle.std.proofs.Common.{◌≡◌, refl, ◌∙◌, sym, ap, arith}
+use Rattle.std.proofs.Common.{◌≡◌, refl, ◌∙◌, sym, arith}
 use Rattle.gs_koetter.specs.Shapes.{at_place}
 use Rattle.gs_koetter.proofs.Prefixes.{nothing_added}
 use Rattle.gs_koetter.proofs.Zeros.{read, zero_is}

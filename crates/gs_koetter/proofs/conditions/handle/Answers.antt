@@ -1,4 +1,4 @@
-use Rattle.std.proofs.Common.{◌≡◌, ◌+◌, ◌*◌, ◌<◌, ◌≤◌, suc, length, refl, sym, ◌∙◌, ap, subst, arith}
+use Rattle.std.proofs.Common.{◌≡◌, ◌+◌, ◌<◌, suc, length, subst, arith}
 use Rattle.koetter_terms.specs.State.{Handled}
 use Rattle.koetter_terms.proofs.Orders.{handled_next}
 use Rattle.term_lists.specs.Places.{AreTermsBelow, exponents_at, place}

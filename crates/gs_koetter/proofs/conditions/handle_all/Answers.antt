@@ -1,4 +1,4 @@
-use Rattle.std.proofs.Common.{◌≡◌, ◌+◌, ◌*◌, ◌<◌, ◌≤◌, suc, length, refl, sym, ◌∙◌, ap, subst, arith}
+use Rattle.std.proofs.Common.{◌≡◌, ◌+◌, ◌*◌, ◌≤◌, suc, length, sym, ◌∙◌, subst, arith}
 use Rattle.decoding_terms.specs.Parameters.{term_count}
 use Rattle.koetter_terms.specs.State.{Handled}
 use Rattle.term_lists.specs.Places.{AreTermsBelow}

@@ -1,4 +1,4 @@
-use Rattle.std.proofs.Common.{◌≡◌, ◌≢◌, ◌⊎◌, ℕ, ◌+◌, ◌*◌, ◌<◌, ◌≤◌, suc, None, Some, length, set, refl, sym, ◌∙◌, ap, subst, arith}
+use Rattle.std.proofs.Common.{◌≡◌, ◌+◌, ◌<◌, ◌≤◌, suc, None, length, set, subst, arith}
 use Rattle.std.proofs.lemmas.List.{length-set}
 use Rattle.std.specs.Option.{IfSome}
 use Rattle.koetter_terms.specs.Curves.{AreQuotients}
@@ -6,7 +6,7 @@ use Rattle.koetter_terms.specs.State.{Handled}
 use Rattle.koetter_terms.proofs.Orders.{handled_here, handled_lower, handled_next}
 use Rattle.term_lists.specs.Places.{AreTermsBelow, exponents_at, place}
 use Rattle.gs_koetter.specs.declared.curve.Curve.{Curve}
-use Rattle.gs_koetter.specs.Shapes.{HasShape, IsProduct, at_place, slot}
+use Rattle.gs_koetter.specs.Shapes.{HasShape, IsProduct, slot}
 use Rattle.gs_koetter.proofs.Pivots.{one_some}
 use Rattle.gs_koetter.proofs.States.{shape_step, state_step}
 use Rattle.gs_koetter.proofs.Stepping.{counted, ended, here, others, room, stands_is}

@@ -1,4 +1,4 @@
-use Rattle.std.proofs.Common.{◌≡◌, ◌+◌, ◌≤◌, length}
+use Rattle.std.proofs.Common.{◌≡◌, ◌+◌, ◌≤◌}
 use Rattle.algebra.specs.Lists.{coefficients}
 use Rattle.bi_poly.specs.Rows.{ArePowers}
 use Rattle.koetter_terms.specs.Derivatives.{derivative}

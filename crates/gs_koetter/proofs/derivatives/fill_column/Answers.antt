@@ -1,10 +1,9 @@
-use Rattle.std.proofs.Common.{◌≡◌, ◌≢◌, inl, inr, ◌+◌, ◌-◌, ◌*◌, ◌<◌, ◌≤◌, length, set, ◌∙◌, sym, ap, subst, arith}
+use Rattle.std.proofs.Common.{◌≡◌, inl, inr, ◌<◌, length, set, ◌∙◌, sym, ap, arith}
 use Rattle.std.proofs.lemmas.Bool.Decides.{eqb_tells}
 use Rattle.std.proofs.lemmas.List.{length-set}
 use Rattle.std.specs.Vec.{vec_len}
 use Rattle.algebra.specs.Lists.{coefficients}
 use Rattle.koetter_terms.specs.Derivatives.{derivative}
-use Rattle.decoding_terms.specs.Parameters.{term_count}
 use Rattle.koetter_terms.specs.Curves.{curve}
 use Rattle.term_lists.specs.Places.{place}
 use Rattle.term_lists.proofs.Ordered.{place_below}

@@ -1,7 +1,6 @@
-use Rattle.std.proofs.Common.{◌≡◌, ◌≢◌, inl, inr, suc, ◌+◌, ◌<◌, length, set, refl, ◌∙◌, sym, ap, arith}
+use Rattle.std.proofs.Common.{◌≡◌, inl, inr, suc, ◌+◌, ◌<◌, length, set, refl, ◌∙◌, sym, ap, arith}
 use Rattle.std.proofs.lemmas.Bool.Decides.{eqb_tells}
 use Rattle.std.proofs.lemmas.List.{get_or-set_other, get_or-set_same, length-set}
-use Rattle.std.specs.Vec.{vec_len}
 use Rattle.algebra.specs.Lists.{coefficients}
 use Rattle.algebra.specs.Sums.{power}
 use Rattle.algebra.proofs.Sums.{power_next, power_none}

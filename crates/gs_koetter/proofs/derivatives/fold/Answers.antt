@@ -1,4 +1,4 @@
-use Rattle.std.proofs.Common.{◌≡◌, ◌+◌, ◌*◌, ◌<◌, length, ◌∙◌, sym, ap, ap₂, arith}
+use Rattle.std.proofs.Common.{◌≡◌, length, ◌∙◌, sym, ap₂, arith}
 use Rattle.algebra.specs.Bivariate.{weight}
 use Rattle.gs_koetter.specs.Tables.{entry}
 use Rattle.gs_koetter.proofs.Laying.{derivative_next, derivative_none, cut_entry, cut_length}

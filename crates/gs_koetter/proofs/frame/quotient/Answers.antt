@@ -1,6 +1,5 @@
-use Rattle.std.proofs.Common.{◌≡◌, ◌≢◌, suc, ◌+◌, ◌-◌, ◌*◌, ◌/◌, ◌≤◌, ◌∙◌, sym, ap, arith}
+use Rattle.std.proofs.Common.{◌≡◌, ◌-◌, ap, arith}
 use Rattle.term_lists.specs.Places.{place}
-use Rattle.koetter_terms.proofs.Places.{place_next}
 use Rattle.gs_koetter.proofs.Quotients.{less_by}
 use Rattle.gs_koetter.proofs.frame.quotient.Goals as goal
 

@@ -1,4 +1,4 @@
-use Rattle.std.proofs.Common.{◌≡◌, ◌+◌, ◌*◌, ◌<◌, ◌≤◌, length, set, refl, ◌∙◌, sym, ap, arith}
+use Rattle.std.proofs.Common.{◌≡◌, length, set, refl, ap, arith}
 use Rattle.std.specs.Vec.{vec_len}
 use Rattle.term_lists.proofs.Ordered.{place_below}
 use Rattle.gs_koetter.proofs.Beginning.{begun_curve}

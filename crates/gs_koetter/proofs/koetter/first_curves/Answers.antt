@@ -1,4 +1,4 @@
-use Rattle.std.proofs.Common.{◌≡◌, ◌+◌, ◌*◌, [], ◌∷◌, None, length, refl, ◌∙◌, sym, ap, subst, arith}
+use Rattle.std.proofs.Common.{◌+◌, [], None, sym, subst, arith}
 use Rattle.term_lists.specs.Extended.{IsExtended}
 use Rattle.term_lists.proofs.Pushed.{extended_push}
 use Rattle.gs_koetter.specs.Results.{IsBegun}

@@ -1,4 +1,4 @@
-use Rattle.std.proofs.Common.{◌≡◌, ◌∙◌, sym, arith}
+use Rattle.std.proofs.Common.{arith}
 use Rattle.gs_koetter.proofs.Deriving.{slot_is}
 use Rattle.gs_koetter.proofs.Pivots.{inside_some}
 use Rattle.gs_koetter.proofs.koetter.first_kept.Goals as goal

@@ -1,4 +1,4 @@
-use Rattle.std.proofs.Common.{◌≡◌, ◌+◌, ◌-◌, ◌*◌, ◌/◌, ◌<◌, ◌≤◌, sym, ◌∙◌, ap, ap₂, subst, arith}
+use Rattle.std.proofs.Common.{◌≡◌, ◌+◌, ◌-◌, ◌*◌, ◌/◌, ap, arith}
 use Rattle.decoding_terms.proofs.Sizes.{some_weight}
 use Rattle.gs_koetter.proofs.Found.{powers_enough, powers_few, powers_light}
 use Rattle.gs_koetter.proofs.koetter.frame.Goals as goal

@@ -1,4 +1,4 @@
-use Rattle.std.proofs.Common.{◌≡◌, ◌+◌, ◌*◌, ◌<◌, ◌≤◌, ◌++◌, Some, length, take, drop, refl, ◌∙◌, sym, ap, subst, arith}
+use Rattle.std.proofs.Common.{◌*◌, length, drop, ◌∙◌, sym, ap, subst, arith}
 use Rattle.decoding_terms.specs.Parameters.{term_count}
 use Rattle.koetter_terms.specs.State.{Handled}
 use Rattle.gs_koetter.specs.Shapes.{HaveShape, slot}

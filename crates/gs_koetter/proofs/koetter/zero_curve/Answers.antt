@@ -1,4 +1,3 @@
-use Rattle.std.specs.Vec.{vec_len}
 use Rattle.gs_koetter.proofs.Beginning.{zeros_at}
 use Rattle.gs_koetter.proofs.koetter.zero_curve.Goals as goal
 

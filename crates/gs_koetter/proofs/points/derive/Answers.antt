@@ -1,6 +1,6 @@
-use Rattle.std.proofs.Common.{◌≡◌, ◌<◌, length, take, refl, ◌∙◌, sym, ap, subst, arith}
+use Rattle.std.proofs.Common.{length, refl, ◌∙◌, sym, ap, subst}
 use Rattle.bi_poly.specs.Rows.{ArePowers}
-use Rattle.koetter_terms.specs.Curves.{IsTile, curve}
+use Rattle.koetter_terms.specs.Curves.{curve}
 use Rattle.term_lists.specs.Places.{place}
 use Rattle.gs_koetter.specs.Tables.{entry}
 use Rattle.gs_koetter.proofs.Deriving.{derived_tile, front_same}

@@ -1,4 +1,4 @@
-use Rattle.std.proofs.Common.{◌≡◌, ◌∙◌, sym, arith}
+use Rattle.std.proofs.Common.{◌∙◌, sym, arith}
 use Rattle.gs_koetter.proofs.Deriving.{slot_is}
 use Rattle.gs_koetter.proofs.points.derive_all.Goals as goal
 

@@ -1,8 +1,7 @@
-use Rattle.std.proofs.Common.{◌≡◌, ◌+◌, ◌*◌, ◌≤◌, suc, length, refl, ◌∙◌, sym, ap, subst, arith}
-use Rattle.algebra.specs.Lists.{coefficients}
+use Rattle.std.proofs.Common.{◌≡◌, ◌+◌, ◌*◌, ◌≤◌, length, ◌∙◌, sym, subst, arith}
 use Rattle.decoding_terms.specs.Parameters.{term_count}
 use Rattle.koetter_terms.specs.State.{Handled}
-use Rattle.gs_koetter.specs.States.{IsBare, IsScratch, IsState, derive_products, step_products}
+use Rattle.gs_koetter.specs.States.{IsState, derive_products, step_products}
 use Rattle.gs_koetter.proofs.Deriving.{bare_after, shape_derived, state_derived}
 use Rattle.gs_koetter.proofs.Stepping.{ended}
 use Rattle.gs_koetter.proofs.points.handle_point.Goals as goal

@@ -1,8 +1,8 @@
-use Rattle.std.proofs.Common.{◌≡◌, ◌+◌, ◌*◌, ◌≤◌, suc, length, refl, ◌∙◌, sym, ap, subst, arith}
+use Rattle.std.proofs.Common.{◌≡◌, ◌+◌, ◌*◌, ◌∙◌, sym, subst, arith}
 use Rattle.std.proofs.lemmas.List.{get_or_default}
 use Rattle.decoding_terms.specs.Parameters.{term_count}
 use Rattle.koetter_terms.specs.State.{Handled}
-use Rattle.gs_koetter.specs.States.{IsBare, point_at, point_products}
+use Rattle.gs_koetter.specs.States.{IsBare, point_at}
 use Rattle.gs_koetter.proofs.points.handle_points.Goals as goal
 
 pub points-preserved : goal.points-preserved

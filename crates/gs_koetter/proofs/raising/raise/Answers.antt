@@ -1,8 +1,7 @@
-use Rattle.std.proofs.Common.{◌≡◌, ◌+◌, ◌*◌, ◌/◌, ◌<◌, ◌≤◌, suc, refl, length, sym, ◌∙◌, ap, subst, arith}
+use Rattle.std.proofs.Common.{refl, length, sym, ◌∙◌, ap, subst, arith}
 use Rattle.koetter_terms.specs.Curves.{IsRaised}
 use Rattle.term_lists.proofs.Ordered.{place_below}
 use Rattle.gs_koetter.proofs.Raised.{raised_lists, raised_shape, shifted_lists}
-use Rattle.gs_koetter.proofs.States.{state_step}
 use Rattle.gs_koetter.proofs.raising.raise.Goals as goal
 
 pub returns-clause-product : goal.returns-clause-product

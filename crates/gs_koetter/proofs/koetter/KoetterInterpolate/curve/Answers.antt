@@ -1,11 +1,10 @@
-use Rattle.std.proofs.Common.{◌≡◌, ◌≢◌, ◌+◌, ◌-◌, ◌*◌, ◌/◌, ◌<◌, ◌≤◌, length, sym, ◌∙◌, ap, ap₂, subst, arith}
+use Rattle.std.proofs.Common.{◌≡◌, ◌≢◌, ◌+◌, ◌*◌, ◌<◌, ◌≤◌, length, sym, ap₂, subst, arith}
 use Rattle.std.specs.FinMap.{empty}
 use Rattle.std.specs.List.{All}
 use Rattle.algebra.specs.Bivariate.{HasMultiplicity, greatest, weight_by}
-use Rattle.algebra.specs.Roots.{AreDifferent}
 use Rattle.decoding_terms.proofs.Sizes.{some_weight}
 use Rattle.decoding_terms.specs.Parameters.{term_count}
-use Rattle.term_lists.specs.Places.{AreTermsBelow, exponents_at}
+use Rattle.term_lists.specs.Places.{AreTermsBelow}
 use Rattle.term_lists.proofs.Ordered.{all_different}
 use Rattle.term_lists.proofs.Orders.{orders_count}
 use Rattle.gs_koetter.proofs.Found.{IsFound, all_found, all_products, low_terms, ok_then, same_products}
