@@ -14,7 +14,7 @@ use Rattle.title_terms.specs.DesignRules.{proposal, design_from}
 use Rattle.title_terms.proofs.DesignValues.{accepted_again}
 use Rattle.title_terms.specs.Titles.{Title, IsTitle}
 use Rattle.title_terms.specs.TitleText.{title_form, title_of, title_text}
-use Rattle.title_terms.proofs.Texts.{read_was_written, written_is_read}
+use Rattle.title_terms.proofs.Texts.{read_was_written}
 use Rattle.title_store.specs.declared.errors.TitleReadError.{TitleReadError}
 use Rattle.title_store.specs.declared.errors.TitleReadError.TheVariants as read_errors
 use Rattle.title_store.specs.Reads.{IsRefused, ReadsAs}

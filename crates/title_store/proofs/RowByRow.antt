@@ -1,12 +1,11 @@
 -- Rows of lines, read one by one.
-use Rattle.std.proofs.Common.{◌≡◌, ℕ, zero, suc, ◌+◌, ◌-◌, ◌<◌, List, [], ◌∷◌, ◌++◌, Result, Ok, Err, refl, sym, ap, ◌∙◌, subst, arith}
+use Rattle.std.proofs.Common.{◌≡◌, ℕ, zero, suc, ◌+◌, ◌-◌, ◌<◌, List, [], ◌∷◌, ◌++◌, Result, Ok, Err, refl, sym, ap, ◌∙◌, arith}
 use Rattle.form_terms.specs.declared.fault.LineFault.{LineFault}
-use Rattle.form_terms.specs.Forms.{Place, Form, then_at, followed, ◌>>=◌, give, rows_after}
+use Rattle.form_terms.specs.Forms.{Place, Form, followed, give, rows_after}
 use Rattle.title_terms.specs.declared.fault.TitleKind.{TitleKind}
 use Rattle.title_store.specs.declared.errors.TitleReadError.{TitleReadError}
 use Rattle.title_store.specs.declared.errors.TitleReadError.TheVariants as read_errors
 use Rattle.title_store.specs.Reads.{IsRefused}
-
 
 module _ {A : Type 0} (form : List A → Form TitleKind A) where
   abbrev Rows : Type 0

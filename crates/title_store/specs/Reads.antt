@@ -1,8 +1,8 @@
 -- What the readers of lines find, and which answer a reading gives. Want of memory is the one answer that is always free.
-use Rattle.std.specs.Prelude.{◌≡◌, ◌<◌, ◌≤◌, ℕ, Bool, true, List, [], length, Option, Result, Ok, Err}
+use Rattle.std.specs.Prelude.{◌≡◌, [], Result, Ok, Err}
 use Rattle.form_terms.specs.declared.fault.LineFault.{LineFault}
 use Rattle.form_terms.specs.Forms.{Place, Form}
-use Rattle.playlist_terms.specs.Playlists.{Playlist, PlaylistSegment}
+use Rattle.playlist_terms.specs.Playlists.{PlaylistSegment}
 use Rattle.title_terms.specs.declared.fault.TitleKind.{TitleKind}
 use Rattle.title_terms.specs.Designs.{Design}
 use Rattle.title_terms.specs.Titles.{Title}

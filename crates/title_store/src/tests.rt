@@ -3,7 +3,10 @@
 ghost use Rattle.std.specs.Prelude.{◌≤◌};
 ghost use Rattle.title_terms.specs.Designs.{places};
 
-use crate::{AddError, BuildError, Design, Digest, Title, TitleBuilder, TitleFault, TitleKind, TitleReadError, digest_of};
+use crate::{
+    AddError, BuildError, Design, Digest, Title, TitleBuilder, TitleFault, TitleKind,
+    TitleReadError, digest_of,
+};
 use m3u8_text::{MediaList, Segment};
 use shelf_io::MemShelf;
 use std::alloc::Global;
@@ -146,12 +149,18 @@ fn tells_where_a_text_is_cut(rt: HostRuntime) -> Result<(), Fail> {
     let mut next = 1u32;
     for count in 0..49usize {
         let text = text_of(alloc, count)?;
-        assert_eq!(rt; fault_of(alloc, text.as_slice()), Some((next, TitleKind::Form)));
+        assert_eq!(rt;
+            fault_of(alloc, text.as_slice()),
+            Some((next, TitleKind::Form))
+        );
         next = next.saturating_add(1);
     }
     let mut longer = text_of(alloc, 49)?;
     longer.push(b'\n')?;
-    assert_eq!(rt; fault_of(alloc, longer.as_slice()), Some((50, TitleKind::Form)));
+    assert_eq!(rt;
+        fault_of(alloc, longer.as_slice()),
+        Some((50, TitleKind::Form))
+    );
     Ok(())
 }
 
@@ -209,22 +218,14 @@ fn tells_what_is_wrong_with_a_line(rt: HostRuntime) -> Result<(), Fail> {
     for (number, line, kind) in faults {
         let text = text_with(alloc, number, line)?;
         let found = Title::read(alloc, text.as_slice()).err();
-        let fault = TitleFault {
-            line: number,
-            kind,
-        };
+        let fault = TitleFault { line: number, kind };
         assert_eq!(rt; found, Some(TitleReadError::NotTitle(fault)));
     }
     Ok(())
 }
 
 /// The digest of a variant that holds its own name, or `abc` where it is the first.
-fn variant_digest(
-    alloc: Global,
-    name: &str,
-    place: u32,
-    symbol: u8,
-) -> Result<Digest, Fail> {
+fn variant_digest(alloc: Global, name: &str, place: u32, symbol: u8) -> Result<Digest, Fail> {
     let mut shelf = MemShelf::new(alloc);
     if place == 0 && symbol == 0 {
         shelf.hold("variant", b"abc")?;

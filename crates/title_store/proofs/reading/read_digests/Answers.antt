@@ -1,10 +1,10 @@
-use Rattle.std.proofs.Common.{◌≡◌, ◌<◌, ◌+◌, ◌-◌, ◌++◌, ◌∷◌, ℕ, List, Option, [], take, true, false, None, Some, Ok, Err, sym, ap, ◌∙◌, subst, arith}
+use Rattle.std.proofs.Common.{◌≡◌, ◌<◌, ◌+◌, ◌-◌, ◌++◌, ◌∷◌, ℕ, List, Option, [], take, true, false, Ok, sym, ap, ◌∙◌, subst, arith}
 use Rattle.std.specs.List.{list_any}
 use Rattle.std.specs.Str.{bytes_eq}
 use Rattle.form_terms.specs.Forms.{fault, rows_after}
 use Rattle.title_terms.specs.declared.fault.TitleKind.TheVariants as kinds
 use Rattle.title_terms.specs.TitleText.{digest_form}
-use Rattle.title_store.specs.Cells.{filled, IsFilled, IsRefusal, HoldsDigest, held_at}
+use Rattle.title_store.specs.Cells.{filled, IsFilled, IsRefusal}
 use Rattle.title_store.proofs.RowByRow.{row_taken, row_refused, rows_all}
 use Rattle.title_store.proofs.Filling.{absent_new, held_old, one_more, grown, all_filled, digest_new, digest_old, digest_bad}
 use Rattle.title_store.proofs.reading.read_digests.Goals as goal
@@ -38,7 +38,7 @@ rows-preserved c =
     let d : List ℕ = c.in-Ok.digest in
     let none : list_any (bytes_eq d) past ≡ false = absent_new table c.rows.row c.args.count c.rows.invariant.cells d c.in-Ok-put.ensures.absent in
     let more : filled (take (c.rows.row + 1) c.put.new.self) ≡ past ++ d ∷ [] =
-        ap (λ (cells : List (Option (List ℕ))). filled (take (c.rows.row + 1) cells)) c.in-Ok-put.ensures.added ∙ one_more table c.rows.row c.args.count c.rows.invariant.cells d lt in
+    ap (λ (cells : List (Option (List ℕ))). filled (take (c.rows.row + 1) cells)) c.in-Ok-put.ensures.added ∙ one_more table c.rows.row c.args.count c.rows.invariant.cells d lt in
     record {
       so_far = ap (λ (ds : List (List ℕ)). rows_after ds (c.args.count - (c.rows.row + 1)) digest_form after) more
           ∙ row_taken digest_form past c.rows.row c.args.count c.rows.lines after d whole lt (digest_new past c.rows.lines after d c.in-Ok.ensures.found none) c.rows.invariant.so_far;

@@ -1,4 +1,4 @@
-use Rattle.std.proofs.Common.{◌≡◌, ◌<◌, ◌+◌, ◌-◌, ℕ, List, [], Ok, Err, sym, ap, ◌∙◌, subst, arith}
+use Rattle.std.proofs.Common.{◌≡◌, ◌<◌, ◌+◌, ◌-◌, ℕ, List, [], Ok, Err, ap, ◌∙◌, subst, arith}
 use Rattle.form_terms.specs.Forms.{rows_after}
 use Rattle.title_terms.specs.TitleText.{mark_form}
 use Rattle.title_store.proofs.RowByRow.{row_taken, row_refused, rows_all}

@@ -1,4 +1,4 @@
-use Rattle.std.proofs.Common.{◌≡◌, ◌<◌, ◌+◌, ◌-◌, ◌++◌, ◌∷◌, ℕ, List, [], length, length-append, Ok, Err, sym, ap, ◌∙◌, subst, arith}
+use Rattle.std.proofs.Common.{◌≡◌, ◌<◌, ◌+◌, ◌-◌, ◌++◌, ◌∷◌, ℕ, List, [], length, length-append, sym, ap, ◌∙◌, arith}
 use Rattle.form_terms.specs.Forms.{rows_after}
 use Rattle.playlist_terms.specs.Playlists.{Playlist, PlaylistSegment}
 use Rattle.title_terms.specs.TitleText.{segment_form}
