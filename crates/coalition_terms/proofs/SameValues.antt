@@ -1,5 +1,5 @@
 -- Polynomials that have the same values at enough points are the same.
-use Rattle.std.proofs.Common.{◌≡◌, ℕ, ◌<◌, ◌≤◌, sym, ◌∙◌, ap, ap₂, arith}
+use Rattle.std.proofs.Common.{◌≡◌, ℕ, ◌<◌, ◌∙◌, ap, ap₂, arith}
 use Rattle.algebra.specs.Ring.{Ring}
 use Rattle.algebra.specs.Series.{value, IsBelow}
 use Rattle.algebra.specs.Roots.{AreDifferent}

@@ -7,7 +7,6 @@ use Rattle.std.specs.Prelude.{filter, Contains, nat_le}
 use Rattle.std.specs.List.{sum_by, count_by, range_with_len}
 use Rattle.std.proofs.lemmas.Bool.{cases_lt, eqb-true, eq-eqb, leb-true}
 use Rattle.std.proofs.Math.Nat.{mul-le-mul_left}
-use Rattle.std.proofs.lemmas.Nat.{pow_pos, mod_below}
 use Rattle.std.proofs.lemmas.List.{length-map}
 use Rattle.std.proofs.lemmas.Bool.Decides.{leb_tells, eqb_tells}
 use Rattle.std.proofs.lemmas.List.Sums.{length-filter, sum_by-cons, sum_by-le, get_or-le-sum_by}
@@ -15,10 +14,10 @@ use Rattle.std.proofs.lemmas.List.Elements.{All-filter, All-map, Contains-get_or
 use Rattle.std.proofs.lemmas.List.FromFn.{length-range_with_len, get_or-range_with_len, fill_by_all}
 use Rattle.code_terms.specs.Symbols.{symbol_of}
 use Rattle.code_terms.specs.Words.{readable, slot_at, holds_symbol, agrees, places_of, agreement_of}
-use Rattle.register_terms.specs.Enrolment.{Enrolment, IsValid, message_of, message_count}
-use Rattle.register_terms.proofs.Messages.{messages_differ, enrolled-below}
 use Rattle.desk_terms.specs.declared.findings.Accused.{Accused}
-use Rattle.desk_terms.specs.Findings.{findings, meets_threshold, licensee_agreement, accusation, serials, not_enough}
+use Rattle.decoder_terms.specs.Decoding.{least_readable}
+use Rattle.desk_terms.specs.Findings.{findings, is_accused, accusation, serials}
+use Rattle.desk_terms.specs.Roll.{Roll, IsRoll, no_entry, message_at}
 use Rattle.coalition_terms.specs.Distance.{have_same_symbol, common_places}
 use Rattle.coalition_terms.specs.Coalition.{IsCoalition, Explains, IsTraced}
 use Rattle.coalition_terms.proofs.Coverings.{counted, IsCovered, covered, sum-below}
@@ -67,19 +66,23 @@ slot_holds : (slot : Option ℕ) (v w : ℕ) → slot ≡ Some v → w ≡ v →
 slot_holds None v w is same = cc
 slot_holds (Some x) v w is same = eq-eqb x w cc
 
-module _ (e : Enrolment) (word : List (Option ℕ)) (c : ℕ) (members : List ℕ) where
+-- in how many places the licensee with this serial agrees with the word
+abbrev agreement_at : Roll → List (Option ℕ) → ℕ → ℕ
+agreement_at roll word j = agreement_of roll.bits roll.dimension (message_at roll j) word
+
+module _ (roll : Roll) (word : List (Option ℕ)) (c : ℕ) (members : List ℕ) where
   -- the symbol of a licensee at a place
   abbrev symbol : ℕ → ℕ → ℕ
-  symbol j i = symbol_of e.bits e.dimension (message_of e j) i
+  symbol j i = symbol_of roll.bits roll.dimension (message_at roll j) i
 
   abbrev agrees_at : ℕ → ℕ → Bool
-  agrees_at j = agrees e.bits e.dimension (message_of e j) word
+  agrees_at j = agrees roll.bits roll.dimension (message_at roll j) word
 
   abbrev shares : ℕ → ℕ → ℕ → Bool
-  shares i j = have_same_symbol e.bits e.dimension (message_of e i) (message_of e j)
+  shares i j = have_same_symbol roll.bits roll.dimension (message_at roll i) (message_at roll j)
 
   -- the members' agreements add up to the number of readable places
-  readable-few : Explains e members word → readable word ≤ sum_by (licensee_agreement e word) members
+  readable-few : Explains roll members word → readable word ≤ sum_by (agreement_at roll word) members
   readable-few explains =
       let places : List ℕ = range_with_len 0 (length word) in
       let cover : (i : ℕ) → IsCovered (λ i. is_some (slot_at word i)) agrees_at members i =
@@ -88,13 +91,13 @@ module _ (e : Enrolment) (word : List (Option ℕ)) (c : ℕ) (members : List �
       let by = explains i slot.0 slot.1 in
       (by.0, by.1, slot_holds (slot_at word i) slot.0 (symbol by.0 i) slot.1 by.2) in
       let few = covered (λ i. is_some (slot_at word i)) agrees_at members places (λ k d within. cover (get_or places k d)) in
-      let same : sum_by (λ j. count_by (agrees_at j) places) members ≡ sum_by (licensee_agreement e word) members =
-      ap (λ f. sum_by f members) (fun_ext (λ j. sym (agreement-count e.bits e.dimension (message_of e j) word))) in
+      let same : sum_by (λ j. count_by (agrees_at j) places) members ≡ sum_by (agreement_at roll word) members =
+      ap (λ f. sum_by f members) (fun_ext (λ j. sym (agreement-count roll.bits roll.dimension (message_at roll j) word))) in
       omega (arith, readable-places word, few, same)
 
   -- another licensee agrees only where a member has the same symbol
-  agreement-few : Explains e members word → (j : ℕ)
-      → licensee_agreement e word j ≤ sum_by (λ i. length (common_places e.bits e.dimension (message_of e i) (message_of e j) (length word))) members
+  agreement-few : Explains roll members word → (j : ℕ)
+      → agreement_at roll word j ≤ sum_by (λ i. length (common_places roll.bits roll.dimension (message_at roll i) (message_at roll j) (length word))) members
   agreement-few explains j =
       let places : List ℕ = range_with_len 0 (length word) in
       let cover : (i : ℕ) → IsCovered (agrees_at j) (λ h. shares h j) members i =
@@ -103,88 +106,85 @@ module _ (e : Enrolment) (word : List (Option ℕ)) (c : ℕ) (members : List �
       let by = explains i (symbol j i) slot in
       (by.0, by.1, eq-eqb (symbol by.0 i) (symbol j i) by.2) in
       let few = covered (agrees_at j) (λ h. shares h j) members places (λ k d within. cover (get_or places k d)) in
-      let same : sum_by (λ i. count_by (shares i j) places) members ≡ sum_by (λ i. length (common_places e.bits e.dimension (message_of e i) (message_of e j) (length word))) members =
+      let same : sum_by (λ i. count_by (shares i j) places) members ≡ sum_by (λ i. length (common_places roll.bits roll.dimension (message_at roll i) (message_at roll j) (length word))) members =
       ap (λ f. sum_by f members) (fun_ext (λ i. sym (length-filter (shares i j) places))) in
-      omega (arith, agreement-count e.bits e.dimension (message_of e j) word, few, same)
+      omega (arith, agreement-count roll.bits roll.dimension (message_at roll j) word, few, same)
 
-  module _ (valid : IsValid e) (short : length word ≤ 2 ^ e.bits) (some : 1 ≤ c) (enough : not_enough e c < readable word)
-      (coalition : IsCoalition e c members) (explains : Explains e members word) where
+  module _ (kept : IsRoll roll) (low : 4 ≤ roll.bits) (high : roll.bits ≤ 8) (short : length word ≤ 2 ^ roll.bits) (some : 1 ≤ c) (enough : least_readable roll.dimension c < readable word)
+      (coalition : IsCoalition roll c members) (explains : Explains roll members word) where
     -- a licensee who is no member has fewer symbols than the dimension in common with a member
-    common-few : (i j : ℕ) → i < length e.licensees → j < length e.licensees → i ≢ j → length (common_places e.bits e.dimension (message_of e i) (message_of e j) (length word)) ≤ e.dimension - 1
+    common-few : (i j : ℕ) → i < length roll.entries → j < length roll.entries → i ≢ j → length (common_places roll.bits roll.dimension (message_at roll i) (message_at roll j) (length word)) ≤ roll.dimension - 1
     common-few i j is js other =
-        let room : 0 < message_count e = pow_pos (e.bits * e.dimension) in
-        let far = far_apart e.bits e.dimension (length word) (message_of e i) (message_of e j) valid.bits_low valid.bits_high short
-        (mod_below (e.multiplier * i + e.shift) (message_count e) room)
-        (mod_below (e.multiplier * j + e.shift) (message_count e) room)
-        (λ same. other (messages_differ e valid i j (enrolled-below e valid i is) (enrolled-below e valid j js) same)) in
+        let far = far_apart roll.bits roll.dimension (length word) (message_at roll i) (message_at roll j) low high short (kept.below i no_entry is) (kept.below j no_entry js)
+        (λ same. other (kept.apart i j is js same)) in
         omega arith
 
     -- so one who meets the threshold is a member
-    is_member : (j : ℕ) → j < length e.licensees → meets_threshold e word c j ≡ true → Contains members j
+    is_member : (j : ℕ) → j < length roll.entries → is_accused roll word c j ≡ true → Contains members j
     is_member j enrolled meets = elim (member_or_none members j) [
       | inl at ↦ at
       | inr none ↦
-          let less : ℕ = e.dimension - 1 in
-          let all : All (λ i. length (common_places e.bits e.dimension (message_of e i) (message_of e j) (length word)) ≤ less) members =
+          let less : ℕ = roll.dimension - 1 in
+          let all : All (λ i. length (common_places roll.bits roll.dimension (message_at roll i) (message_at roll j) (length word)) ≤ less) members =
           λ k d within. common-few (get_or members k d) j (coalition.enrolled k d within) enrolled (none (get_or members k d) (Contains-get_or members k d within)) in
-          let sum = sum_by-le (λ i. length (common_places e.bits e.dimension (message_of e i) (message_of e j) (length word))) less members all in
-          let bounded : licensee_agreement e word j ≤ c * less = omega (arith, agreement-few explains j, sum, mul-le-mul_left less coalition.few) in
+          let sum = sum_by-le (λ i. length (common_places roll.bits roll.dimension (message_at roll i) (message_at roll j) (length word))) less members all in
+          let bounded : agreement_at roll word j ≤ c * less = omega (arith, agreement-few explains j, sum, mul-le-mul_left less coalition.few) in
           let most = mul-le-mul_left c bounded in
-          let reached : readable word ≤ licensee_agreement e word j * c = leb-true (readable word) (licensee_agreement e word j * c) meets in
+          let reached : readable word ≤ agreement_at roll word j * c = leb-true (readable word) (agreement_at roll word j * c) meets in
           let threshold : c * c * less < readable word = enough in
           let same : c * (c * less) ≡ c * c * less = omega arith in
           absurd (omega arith)
     ]
 
     -- where nobody meets the threshold, the members' agreements are too few
-    too_few : All (λ j. licensee_agreement e word j * c < readable word) members → ⊥
+    too_few : All (λ j. agreement_at roll word j * c < readable word) members → ⊥
     too_few each =
         let r : ℕ = readable word in
-        let whole : ℕ = sum_by (licensee_agreement e word) members in
-        let below : whole * c + length members ≤ length members * r = sum-below (licensee_agreement e word) c r members each in
+        let whole : ℕ = sum_by (agreement_at roll word) members in
+        let below : whole * c + length members ≤ length members * r = sum-below (agreement_at roll word) c r members each in
         let above : c * r ≤ c * whole = mul-le-mul_left c (readable-few explains) in
         let bounded : r * length members ≤ r * c = mul-le-mul_left r coalition.few in
         let none : length members ≡ 0 = omega arith in
         let nothing : length members * r ≡ 0 * r = ap (λ n. n * r) none in
         let one : r * 1 ≤ r * c = mul-le-mul_left r some in
-        let threshold : c * c * (e.dimension - 1) < r = enough in
+        let threshold : c * c * (roll.dimension - 1) < r = enough in
         omega arith
 
-    only_members : All (λ j. Contains members j) (filter (meets_threshold e word c) (serials e))
+    only_members : All (λ j. Contains members j) (filter (is_accused roll word c) (serials roll))
     only_members k d within =
-        let n : ℕ = length e.licensees in
-        let long : length (serials e) ≡ n = length-range_with_len 0 n in
-        is_member (get_or (filter (meets_threshold e word c) (serials e)) k d)
-        (All-filter (meets_threshold e word c) (λ j. j < n) (serials e) (λ i d inside. omega (arith, get_or-range_with_len 0 n i d (omega arith))) k d within)
-        (filter_passes (meets_threshold e word c) (serials e) k d within)
+        let n : ℕ = length roll.entries in
+        let long : length (serials roll) ≡ n = length-range_with_len 0 n in
+        is_member (get_or (filter (is_accused roll word c) (serials roll)) k d)
+        (All-filter (is_accused roll word c) (λ j. j < n) (serials roll) (λ i d inside. omega (arith, get_or-range_with_len 0 n i d (omega arith))) k d within)
+        (filter_passes (is_accused roll word c) (serials roll) k d within)
 
-    some_member : 0 < length (filter (meets_threshold e word c) (serials e))
-    some_member = elim (cases_lt 0 (length (filter (meets_threshold e word c) (serials e)))) [
+    some_member : 0 < length (filter (is_accused roll word c) (serials roll))
+    some_member = elim (cases_lt 0 (length (filter (is_accused roll word c) (serials roll)))) [
       | inl found ↦ found
-      | inr none ↦ absurd (too_few (λ k d within. below none (get_or members k d) (coalition.enrolled k d within) (leb_tells (readable word) (licensee_agreement e word (get_or members k d) * c))))
+      | inr none ↦ absurd (too_few (λ k d within. below none (get_or members k d) (coalition.enrolled k d within) (leb_tells (readable word) (agreement_at roll word (get_or members k d) * c))))
     ]
       where
-        below : length (filter (meets_threshold e word c) (serials e)) ≤ 0 → (j : ℕ) → j < length e.licensees
-            → (nat_le (readable word) (licensee_agreement e word j * c) ≡ true) × (readable word ≤ licensee_agreement e word j * c) ⊎ (nat_le (readable word) (licensee_agreement e word j * c) ≡ false) × (licensee_agreement e word j * c < readable word)
-            → licensee_agreement e word j * c < readable word
+        below : length (filter (is_accused roll word c) (serials roll)) ≤ 0 → (j : ℕ) → j < length roll.entries
+            → (nat_le (readable word) (agreement_at roll word j * c) ≡ true) × (readable word ≤ agreement_at roll word j * c) ⊎ (nat_le (readable word) (agreement_at roll word j * c) ≡ false) × (agreement_at roll word j * c < readable word)
+            → agreement_at roll word j * c < readable word
         below none j enrolled (inr less) = less.1
         below none j enrolled (inl meets) =
-            let n : ℕ = length e.licensees in
-            let long : length (serials e) ≡ n = length-range_with_len 0 n in
-            let here : get_or (serials e) j 0 ≡ j = get_or-range_with_len 0 n j 0 enrolled ∙ omega arith in
-            let passes : meets_threshold e word c (get_or (serials e) j 0) ≡ true = ap (meets_threshold e word c) here ∙ meets.0 in
-            let counts = get_or-le-sum_by (λ i. counted (meets_threshold e word c i)) (serials e) j 0 (omega arith) in
-            absurd (omega (arith, length-filter (meets_threshold e word c) (serials e), counts, ap counted passes))
+            let n : ℕ = length roll.entries in
+            let long : length (serials roll) ≡ n = length-range_with_len 0 n in
+            let here : get_or (serials roll) j 0 ≡ j = get_or-range_with_len 0 n j 0 enrolled ∙ omega arith in
+            let passes : is_accused roll word c (get_or (serials roll) j 0) ≡ true = ap (is_accused roll word c) here ∙ meets.0 in
+            let counts = get_or-le-sum_by (λ i. counted (is_accused roll word c i)) (serials roll) j 0 (omega arith) in
+            absurd (omega (arith, length-filter (is_accused roll word c) (serials roll), counts, ap counted passes))
 
 -- the desk accuses members of a coalition that made the word, and at least one of them
-pub traced : (e : Enrolment) (word : List (Option ℕ)) (c : ℕ) (members : List ℕ) → IsValid e → length word ≤ 2 ^ e.bits → 1 ≤ c
-    → not_enough e c < readable word → IsCoalition e c members → Explains e members word → IsTraced e word c members
+pub traced : (roll : Roll) (word : List (Option ℕ)) (c : ℕ) (members : List ℕ) → IsRoll roll → 4 ≤ roll.bits → roll.bits ≤ 8 → length word ≤ 2 ^ roll.bits → 1 ≤ c
+    → least_readable roll.dimension c < readable word → IsCoalition roll c members → Explains roll members word → IsTraced roll word c members
 unfolding findings
-traced e word c members valid short some enough coalition explains = record {
-  members = All-map (λ (a : Accused). Contains members a.serial) (accusation e word) (filter (meets_threshold e word c) (serials e))
-      (only_members e word c members valid short some enough coalition explains);
+traced roll word c members kept low high short some enough coalition explains = record {
+  members = All-map (λ (a : Accused). Contains members a.serial) (accusation roll word) (filter (is_accused roll word c) (serials roll))
+      (only_members roll word c members kept low high short some enough coalition explains);
   some =
-      let long : length (map (accusation e word) (filter (meets_threshold e word c) (serials e))) ≡ length (filter (meets_threshold e word c) (serials e)) =
-      length-map (filter (meets_threshold e word c) (serials e)) (accusation e word) in
-      omega (arith, long, some_member e word c members valid short some enough coalition explains);
+      let long : length (map (accusation roll word) (filter (is_accused roll word c) (serials roll))) ≡ length (filter (is_accused roll word c) (serials roll)) =
+      length-map (filter (is_accused roll word c) (serials roll)) (accusation roll word) in
+      omega (arith, long, some_member roll word c members kept low high short some enough coalition explains);
 }

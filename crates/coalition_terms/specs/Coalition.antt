@@ -5,19 +5,19 @@ use Rattle.std.specs.Prelude.{◌≡◌, ℕ, ◌<◌, ◌≤◌, List, length, 
 use Rattle.code_terms.specs.Symbols.{symbol_of}
 use Rattle.code_terms.specs.Words.{slot_at}
 use Rattle.desk_terms.specs.Findings.{findings}
-use Rattle.register_terms.specs.Enrolment.{Enrolment, message_of}
+use Rattle.desk_terms.specs.Roll.{Roll, message_at}
 
--- at most c serials, each of an enrolled licensee
-pub record IsCoalition (e : Enrolment) (c : ℕ) (members : List ℕ) : Type 0 where
-  pub enrolled : All (λ j. j < length e.licensees) members
+-- at most c serials, each of a licensee on the roll
+pub record IsCoalition (roll : Roll) (c : ℕ) (members : List ℕ) : Type 0 where
+  pub enrolled : All (λ j. j < length roll.entries) members
   pub few : length members ≤ c
 
 -- each symbol of the word is the symbol that some member has at that place
-abbrev pub Explains : Enrolment → List ℕ → List (Option ℕ) → Type 0
-Explains e members word =
-    (i v : ℕ) → slot_at word i ≡ Some v → (j : ℕ) × Contains members j × (symbol_of e.bits e.dimension (message_of e j) i ≡ v)
+abbrev pub Explains : Roll → List ℕ → List (Option ℕ) → Type 0
+Explains roll members word =
+    (i v : ℕ) → slot_at word i ≡ Some v → (j : ℕ) × Contains members j × (symbol_of roll.bits roll.dimension (message_at roll j) i ≡ v)
 
 -- the desk accuses only members of the coalition, and at least one of them
-pub record IsTraced (e : Enrolment) (word : List (Option ℕ)) (c : ℕ) (coalition : List ℕ) : Type 0 where
-  pub members : All (λ accused. Contains coalition accused.serial) (findings e word c).accused
-  pub some : 0 < length (findings e word c).accused
+pub record IsTraced (roll : Roll) (word : List (Option ℕ)) (c : ℕ) (coalition : List ℕ) : Type 0 where
+  pub members : All (λ accused. Contains coalition accused.serial) (findings roll word c).accused
+  pub some : 0 < length (findings roll word c).accused

@@ -7,9 +7,9 @@ ghost use Rattle.algebra.specs.Series.{IsBelow, value};
 ghost use Rattle.coalition_terms.specs.Coalition.{Explains, IsCoalition, IsTraced};
 ghost use Rattle.coalition_terms.specs.Distance.{common_places};
 ghost use Rattle.code_terms.specs.Words.{readable, three_colluders};
+ghost use Rattle.decoder_terms.specs.Decoding.{least_readable};
 ghost use Rattle.desk_terms.specs.Examples.{first_licensees};
-ghost use Rattle.desk_terms.specs.Findings.{not_enough};
-ghost use Rattle.register_terms.specs.Enrolment.{Enrolment, IsValid};
+ghost use Rattle.desk_terms.specs.Roll.{IsRoll, Roll, roll_of};
 
 /// Two messages of k coefficients that differ have the same symbol in at most k - 1 of the first n places, where n is at most 2^m.
 pub fn codewords_are_far_apart()
@@ -19,7 +19,7 @@ pub fn codewords_are_far_apart()
 /// Where a coalition of at most c licensees made the word, and more than c² (k - 1) places of it can be read, the desk accuses
 /// members of the coalition alone, and at least one of them.
 pub fn coalitions_are_traced()
-    ensures { (e : Enrolment) (word : List (Option ℕ)) (c : ℕ) (members : List ℕ) → IsValid e → length word ≤ 2 ^ e.bits → 1 ≤ c → not_enough e c < readable word → IsCoalition e c members → Explains e members word → IsTraced e word c members }
+    ensures { (roll : Roll) (word : List (Option ℕ)) (c : ℕ) (members : List ℕ) → IsRoll roll → 4 ≤ roll.bits → roll.bits ≤ 8 → length word ≤ 2 ^ roll.bits → 1 ≤ c → least_readable roll.dimension c < readable word → IsCoalition roll c members → Explains roll members word → IsTraced roll word c members }
 {}
 
 /// Two polynomials with n coefficients each that have the same values at n different points of a field are the same.
@@ -30,9 +30,9 @@ pub fn values_tell_polynomials<F>()
 /// Three licensees and a word that were worked out by hand meet all that is asked of a coalition, and two messages of two
 /// coefficients have a symbol in common, so that neither law speaks of nothing.
 pub fn worked_examples()
-    ensures valid { IsValid (first_licensees 20) }
-    ensures coalition { IsCoalition (first_licensees 20) 3 (0 ∷ 1 ∷ 16 ∷ []) }
-    ensures explained { Explains (first_licensees 20) (0 ∷ 1 ∷ 16 ∷ []) three_colluders }
-    ensures enough { not_enough (first_licensees 20) 3 < readable three_colluders }
+    ensures kept { IsRoll (roll_of (first_licensees 20)) }
+    ensures coalition { IsCoalition (roll_of (first_licensees 20)) 3 (0 ∷ 1 ∷ 16 ∷ []) }
+    ensures explained { Explains (roll_of (first_licensees 20)) (0 ∷ 1 ∷ 16 ∷ []) three_colluders }
+    ensures enough { least_readable 2 3 < readable three_colluders }
     ensures in_common { common_places 4 2 0 16 16 ≡ 0 ∷ [] }
 {}

@@ -1,2 +1,2 @@
 pub mod Commas
-pub mod Scans
+pub mod Rolls

@@ -1,4 +1,5 @@
+pub mod Roll
 pub mod Findings
+pub mod Bounds
 pub mod Report
-pub mod Scan
 pub mod Examples

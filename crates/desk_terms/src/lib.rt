@@ -5,4 +5,4 @@ mod findings;
 mod laws;
 
 pub use findings::{Accused, AccusedList, Findings, Places};
-pub use laws::worked_examples;
+pub use laws::{registers_have_rolls, worked_bounds, worked_examples};

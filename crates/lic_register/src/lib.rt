@@ -6,6 +6,7 @@
 
 mod enrolling;
 mod errors;
+mod finding;
 mod licensee;
 mod looking;
 mod reading;
@@ -18,5 +19,7 @@ pub use licensee::Licensee;
 pub use register::Register;
 pub use register_terms::{RegisterFault, RegisterKind};
 
+#[cfg(test)]
+mod finding_tests;
 #[cfg(test)]
 mod tests;

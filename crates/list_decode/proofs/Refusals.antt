@@ -1,8 +1,8 @@
 -- What the decoder answers where there are no parameters, and where there are.
-use Rattle.std.proofs.Common.{◌≡◌, ℕ, ◌-◌, ◌*◌, ◌≤◌, Bool, true, false, nat_lt, if◌then◌else◌, List, Option, None, Some, Ok, Err, refl, sym, ◌∙◌, ap, arith}
+use Rattle.std.proofs.Common.{◌≡◌, ℕ, ◌-◌, ◌*◌, ◌<◌, ◌≤◌, Bool, true, false, nat_lt, if◌then◌else◌, List, Option, None, Some, Ok, Err, refl, sym, ◌∙◌, ap, arith}
 use Rattle.std.proofs.lemmas.Bool.Decides.{nat_tests}
 use Rattle.code_terms.specs.Words.{readable}
-use Rattle.decoding_terms.specs.Parameters.{is_allowed_bound}
+use Rattle.decoding_terms.specs.Parameters.{AreEnough, is_allowed_bound}
 use Rattle.decoder_terms.specs.Decoding.{decoded, least_readable}
 use Rattle.gs_params.specs.declared.parameters.ParamError.{ParamError}
 use Rattle.gs_params.specs.declared.parameters.ParamError.TheVariants as chosen
@@ -71,4 +71,13 @@ module _ (m k c : ℕ) (word : List (Option ℕ)) where
   some_readable h = above (c * c * (k - 1)) (readable word) (granted h).1
     where
       above : (a b : ℕ) → nat_lt a b ≡ true → 1 ≤ b
+      above a b e = grind (arith, nat_tests)
+
+  -- and there are enough readable places
+  pub are_enough : 2 ≤ k → None ≡ refusal_of k c (readable word) → AreEnough (k - 1) c (readable word)
+  are_enough least h =
+      let both = granted h in
+      record { some_weight = omega arith; some_bound = (allowed_bound k c both.0).0; many = above (c * c * (k - 1)) (readable word) both.1 }
+    where
+      above : (a b : ℕ) → nat_lt a b ≡ true → a < b
       above a b e = grind (arith, nat_tests)

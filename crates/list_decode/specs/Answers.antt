@@ -2,7 +2,7 @@
 -- Source: this project's own.
 use Rattle.std.specs.Prelude.{◌≡◌, ℕ, ◌-◌, ◌≤◌, nat_lt, if◌then◌else◌, List, Option, Result, Ok, Err}
 use Rattle.code_terms.specs.Words.{readable}
-use Rattle.decoding_terms.specs.Parameters.{AreParameters, is_allowed_bound}
+use Rattle.decoding_terms.specs.Parameters.{AreEnough, AreParameters, is_allowed_bound}
 use Rattle.decoder_terms.specs.Decoding.{decoded, least_readable}
 use Rattle.gs_params.specs.declared.parameters.Params.{Params}
 use Rattle.list_decode.specs.declared.decode_error.DecodeError.{DecodeError}
@@ -20,6 +20,6 @@ DecodesAs (Err BadBound) wanted = wanted ≡ Err BadBound
 DecodesAs (Err (TooFew r)) wanted = wanted ≡ Err (TooFew r)
 DecodesAs (Err Memory) wanted = Unit {0}
 
--- with these parameters, a curve through r points costs at most so many products
+-- a curve through r points, where those are enough, costs at most so many products with the parameters that are chosen for it
 abbrev pub CostsAtMost : (Params → ℕ) → (k c r most : ℕ) → Type 0
-CostsAtMost cost k c r most = (p : Params) → p.w ≡ k - 1 → p.r ≡ r → AreParameters (k - 1) c r p.t p.s p.e → cost p ≤ most
+CostsAtMost cost k c r most = AreEnough (k - 1) c r → (p : Params) → p.w ≡ k - 1 → p.r ≡ r → AreParameters (k - 1) c r p.t p.s p.e → cost p ≤ most

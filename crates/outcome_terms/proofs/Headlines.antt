@@ -12,7 +12,10 @@ use Rattle.register_terms.specs.Enrolment.{Enrolment, names_of, capacity, serial
 use Rattle.register_terms.specs.Rules.{empty_register, with_name, with_withdrawn, is_active, are_bits, is_dimension, is_multiplier, is_shift}
 use Rattle.register_terms.specs.RegisterText.{register_of, register_text}
 use Rattle.register_terms.proofs.Serials.{bytes_eq-own}
-use Rattle.desk_terms.specs.Findings.{findings, is_allowed_bound, not_enough}
+use Rattle.decoding_terms.specs.Parameters.{is_allowed_bound}
+use Rattle.decoder_terms.specs.Decoding.{least_readable}
+use Rattle.desk_terms.specs.Findings.{findings}
+use Rattle.desk_terms.specs.Roll.{roll_of}
 use Rattle.desk_terms.specs.Report.{report_text}
 use Rattle.outcome_terms.specs.declared.refusal.Refusal.{Refusal}
 use Rattle.outcome_terms.specs.declared.fault.Fault.{Fault}
@@ -141,14 +144,14 @@ was_allowed blobs k c bound h =
     record { allowed = so.so; same = was_given blobs c bound so.then }
 
 record Reported (e : Enrolment) (word : List (Option ℕ)) (c : ℕ) (text : List ℕ) : Type 0 where
-  enough : not_enough e c < readable word
-  is : report_text (findings e word c) ≡ text
+  enough : least_readable e.dimension c < readable word
+  is : report_text (findings (roll_of e) word c) ≡ text
 
 reported : (blobs : Blobs) (e : Enrolment) (word : List (Option ℕ)) (c : ℕ) (text : List ℕ) → given blobs (report e word c) ≡ Ok text → Reported e word c text
 unfolding report
 reported blobs e word c text h =
-    let m = met blobs (nat_lt (not_enough e c) (readable word)) (TooFew (readable word) (not_enough e c)) _ text h in
-    record { enough = (let so = m.so in grind (arith, nat_tests)); is = was_given blobs (report_text (findings e word c)) text m.then }
+    let m = met blobs (nat_lt (least_readable e.dimension c) (readable word)) (TooFew (readable word) (least_readable e.dimension c)) _ text h in
+    record { enough = (let so = m.so in grind (arith, nat_tests)); is = was_given blobs (report_text (findings (roll_of e) word c)) text m.then }
 
 pub accuse_report : (blobs : Blobs) (register word : List ℕ) (c : ℕ) (text : List ℕ) → given blobs (accuse register word c) ≡ Ok text → IsReport blobs register word c text
 unfolding accuse

@@ -6,3 +6,4 @@ pub mod Givens
 pub mod Performing
 pub mod Calls
 pub mod Headlines
+pub mod Spending

@@ -10,7 +10,8 @@ use Rattle.code_terms.specs.WordText.{word_of}
 use Rattle.register_terms.specs.Enrolment.{Enrolment, names_of, capacity, serial_of}
 use Rattle.register_terms.specs.Rules.{is_active, are_bits, is_dimension, is_multiplier, is_shift}
 use Rattle.register_terms.specs.RegisterText.{RegisterFault, register_of}
-use Rattle.desk_terms.specs.Findings.{is_allowed_bound, not_enough}
+use Rattle.decoding_terms.specs.Parameters.{is_allowed_bound}
+use Rattle.decoder_terms.specs.Decoding.{least_readable}
 use Rattle.outcome_terms.specs.declared.status.Status.{Status}
 use Rattle.outcome_terms.specs.declared.fault.Fault.{Fault}
 use Rattle.outcome_terms.specs.declared.fault.Fault.TheVariants.{Unknown, Withdrawn, BadRegister, BadBound, TooFew, NameTaken, BadName, Full, SameName, BadWord, BadParameters}
@@ -119,7 +120,7 @@ allowed_within k c = within_met (may_end accuse_statuses) (is_allowed_bound k c)
 report_within : (e : Enrolment) (word : List (Option ℕ)) (c : ℕ) → Within (may_end accuse_statuses) (report e word c)
 unfolding report
 report_within e word c =
-    within_met (may_end accuse_statuses) (nat_lt (not_enough e c) (readable word)) (TooFew (readable word) (not_enough e c)) _ refl (within_give (may_end accuse_statuses) _)
+    within_met (may_end accuse_statuses) (nat_lt (least_readable e.dimension c) (readable word)) (TooFew (readable word) (least_readable e.dimension c)) _ refl (within_give (may_end accuse_statuses) _)
 
 pub accuse_within : (register word : List ℕ) (c : ℕ) → Within (may_end accuse_statuses) (accuse register word c)
 unfolding accuse

@@ -4,13 +4,17 @@ use Rattle.text_terms.specs.Numbers.{number_of}
 use Rattle.code_terms.specs.Words.{readable}
 use Rattle.code_terms.specs.WordText.{word_of}
 use Rattle.register_terms.specs.Enrolment.{Enrolment}
-use Rattle.desk_terms.specs.Findings.{findings, is_allowed_bound, not_enough}
+use Rattle.decoding_terms.specs.Parameters.{is_allowed_bound}
+use Rattle.decoder_terms.specs.Decoding.{least_readable}
+use Rattle.desk_terms.specs.Findings.{findings}
+use Rattle.desk_terms.specs.Roll.{roll_of}
 use Rattle.desk_terms.specs.Report.{report_text}
 use Rattle.outcome_terms.specs.declared.fault.Fault.TheVariants.{BadBound, BadWord, TooFew}
 use Rattle.outcome_terms.specs.Request.{Request, Accuse}
 use Rattle.outcome_terms.specs.Words.{◌>>?◌, named}
 use Rattle.outcome_terms.specs.Reading.{Reading, Give, ◌>>=◌, ◌>>◌, blob, understood, require}
 use Rattle.outcome_terms.specs.Registers.{register_under}
+use Rattle.outcome_terms.specs.Traces.{Trace, trace_at}
 
 -- two blobs' names and a number
 unfoldable pub accuse_of : List (List ℕ) → Option Request
@@ -32,8 +36,8 @@ word_under name m = do
 -- the report of a word against a register
 unfoldable pub report : Enrolment → List (Option ℕ) → ℕ → Reading (List ℕ)
 report e word c = do
-  require (nat_lt (not_enough e c) (readable word)) (TooFew (readable word) (not_enough e c))
-  Give (report_text (findings e word c))
+  require (nat_lt (least_readable e.dimension c) (readable word)) (TooFew (readable word) (least_readable e.dimension c))
+  Give (report_text (findings (roll_of e) word c))
 
 -- the report of the word's findings
 unfoldable pub accuse : (register word : List ℕ) (c : ℕ) → Reading (List ℕ)
@@ -42,6 +46,14 @@ accuse register word c = do
   bound ← allowed e.dimension c
   slots ← word_under word e.bits
   report e slots bound
+
+-- the trace that it makes, where nothing is refused before
+unfoldable pub accuse_trace : (register word : List ℕ) (c : ℕ) → Reading Trace
+accuse_trace register word c = do
+  e ← register_under register
+  bound ← allowed e.dimension c
+  slots ← word_under word e.bits
+  Give (trace_at e.dimension slots bound)
 
 -- the numbers of the statuses that it ends with
 abbrev pub accuse_statuses : List ℕ

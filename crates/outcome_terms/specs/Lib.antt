@@ -1,4 +1,5 @@
 pub mod Request
+pub mod Traces
 pub mod Words
 pub mod Statuses
 pub mod Reading
@@ -12,4 +13,5 @@ pub mod Commands
 pub mod Outcome
 pub mod Output
 pub mod Call
+pub mod Spending
 pub mod Reports

@@ -8,7 +8,10 @@ use Rattle.code_terms.specs.WordText.{word_of}
 use Rattle.register_terms.specs.Enrolment.{Enrolment, names_of, capacity, serial_of}
 use Rattle.register_terms.specs.Rules.{empty_register, with_name, with_withdrawn, is_active, are_bits, is_dimension, is_multiplier, is_shift}
 use Rattle.register_terms.specs.RegisterText.{register_of, register_text}
-use Rattle.desk_terms.specs.Findings.{findings, is_allowed_bound, not_enough}
+use Rattle.decoding_terms.specs.Parameters.{is_allowed_bound}
+use Rattle.decoder_terms.specs.Decoding.{least_readable}
+use Rattle.desk_terms.specs.Findings.{findings}
+use Rattle.desk_terms.specs.Roll.{roll_of}
 use Rattle.desk_terms.specs.Report.{report_text}
 
 -- the blob of this name is the text of this register
@@ -59,8 +62,8 @@ pub record IsReport (blobs : Blobs) (register_name word_name : List ℕ) (c : �
   pub holds_register : HoldsRegister blobs register_name register
   pub bound_allowed : is_allowed_bound register.dimension c ≡ true
   pub holds_word : HoldsWord blobs word_name register.bits word
-  pub enough : not_enough register c < readable word
-  pub report : text ≡ report_text (findings register word c)
+  pub enough : least_readable register.dimension c < readable word
+  pub report : text ≡ report_text (findings (roll_of register) word c)
 
 pub record PutsReport (blobs : Blobs) (register_name word_name : List ℕ) (c : ℕ) (before after : List ℕ) : Type 0 where
   pub text : List ℕ

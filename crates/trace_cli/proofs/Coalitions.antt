@@ -8,7 +8,10 @@ use Rattle.code_terms.proofs.WordLength.{word_of-length}
 use Rattle.register_terms.specs.Enrolment.{Enrolment}
 use Rattle.register_terms.specs.RegisterText.{register_of}
 use Rattle.register_terms.proofs.Texts.{read_was_written}
-use Rattle.desk_terms.specs.Findings.{is_allowed_bound, not_enough}
+use Rattle.decoding_terms.specs.Parameters.{is_allowed_bound}
+use Rattle.decoder_terms.specs.Decoding.{least_readable}
+use Rattle.desk_terms.specs.Roll.{roll_of}
+use Rattle.desk_terms.proofs.Rolls.{roll_of-is_roll}
 use Rattle.coalition_terms.proofs.Tracing.{traced}
 use Rattle.outcome_terms.specs.Reports.{IsReport}
 use Rattle.trace_cli.specs.Coalitions.{TracesCoalitions}
@@ -31,7 +34,8 @@ report_traces blobs register_name word_name c text report e word members holds_r
     let read_alike : word_of e.bits report.holds_word.bytes ≡ Ok report.word = subst (λ (r : Enrolment). word_of r.bits report.holds_word.bytes ≡ Ok report.word) same report.holds_word.read in
     let same_word : report.word ≡ word =
     one_reading (word_of e.bits) (blob_at blobs word_name) report.holds_word.bytes holds_word.bytes report.word word report.holds_word.held holds_word.held read_alike holds_word.read in
-    let enough : not_enough e c < readable word =
-    subst (λ (w : List (Option ℕ)). not_enough e c < readable w) same_word (subst (λ (r : Enrolment). not_enough r c < readable report.word) same report.enough) in
+    let enough : least_readable e.dimension c < readable word =
+    subst (λ (w : List (Option ℕ)). least_readable e.dimension c < readable w) same_word (subst (λ (r : Enrolment). least_readable r.dimension c < readable report.word) same report.enough) in
     let allowed : is_allowed_bound e.dimension c ≡ true = subst (λ (r : Enrolment). is_allowed_bound r.dimension c ≡ true) same report.bound_allowed in
-    traced e word c members (read_was_written holds_register.bytes e holds_register.read).valid (word_of-length e.bits holds_word.bytes word holds_word.read).most (at_least_one e.dimension c allowed) enough is_coalition explains
+    let valid = (read_was_written holds_register.bytes e holds_register.read).valid in
+    traced (roll_of e) word c members (roll_of-is_roll e valid) valid.bits_low valid.bits_high (word_of-length e.bits holds_word.bytes word holds_word.read).most (at_least_one e.dimension c allowed) enough is_coalition explains

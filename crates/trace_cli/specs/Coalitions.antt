@@ -3,6 +3,7 @@
 use Rattle.std.specs.Prelude.{ℕ, List, Option, Some, None, ⊤}
 use Rattle.shelf_terms.specs.Blobs.{Blobs}
 use Rattle.register_terms.specs.Enrolment.{Enrolment}
+use Rattle.desk_terms.specs.Roll.{roll_of}
 use Rattle.outcome_terms.specs.Reports.{HoldsRegister, HoldsWord}
 use Rattle.coalition_terms.specs.Coalition.{IsCoalition, Explains, IsTraced}
 
@@ -11,4 +12,4 @@ use Rattle.coalition_terms.specs.Coalition.{IsCoalition, Explains, IsTraced}
 abbrev pub TracesCoalitions : Option Blobs → (register_name word_name : List ℕ) → ℕ → Type 0
 TracesCoalitions None register_name word_name c = ⊤
 TracesCoalitions (Some blobs) register_name word_name c =
-    (e : Enrolment) (word : List (Option ℕ)) (K : List ℕ) → HoldsRegister blobs register_name e → HoldsWord blobs word_name e.bits word → IsCoalition e c K → Explains e K word → IsTraced e word c K
+    (e : Enrolment) (word : List (Option ℕ)) (K : List ℕ) → HoldsRegister blobs register_name e → HoldsWord blobs word_name e.bits word → IsCoalition (roll_of e) c K → Explains (roll_of e) K word → IsTraced (roll_of e) word c K

@@ -10,12 +10,15 @@ ghost use Rattle.std.specs.Vec.Iter.{into_iter_items};
 ghost use Rattle.std.specs.IoError.{error_kind};
 ghost use Rattle.trace_cli.specs.CommandLine.{AnswersWords, argument_status};
 
+mod costs;
 mod ending;
 mod run_call;
 #[cfg(test)]
 mod tests;
 
 use cli_words::Status;
+use costs::CURVES;
+pub use costs::curves_cost;
 use lists::Text;
 pub use run_call::run;
 use shelf_io::{FolderShelf, StdSink};
@@ -100,5 +103,7 @@ fn counted<P: Ledger, Q: Ledger>(
     let mut shelf = FolderShelf::new(rt, folder);
     let mut prods = Steps::<P>::new(prods);
     let mut looks = Steps::<Q>::new(looks);
-    run(alloc, words, &mut shelf, &mut out, &mut prods, &mut looks)
+    run(
+        alloc, words, &mut shelf, &mut out, &CURVES, &mut prods, &mut looks,
+    )
 }

@@ -9,11 +9,14 @@ ghost use Rattle.outcome_terms.specs.Outcome.{Performs, is_free_status, outcome,
 ghost use Rattle.outcome_terms.specs.Output.{output};
 ghost use Rattle.outcome_terms.specs.Call.{Ends, GetsSoFar, HasEffect, IsRefused, KeepsOutput, SparesBlobs, StatusCauses, row};
 ghost use Rattle.command_io.specs.Answers.{left_text};
+ghost use Rattle.outcome_terms.specs.Spending.{SpendsAtMost, TakesAtMost, trace_of};
+ghost use Rattle.trace_commands.specs.Costs.{curve_costs};
 ghost use Rattle.trace_cli.specs.Headline.{Headline};
 
 use crate::ending::put_out;
 use cli_words::{Command, Status, read_words};
 use command_io::{Done, write_text};
+use gs_params::Interpolate;
 use outcome_terms::Refusal;
 use register_commands::{enrolled_text, register_text, withdrawn_text};
 use shelf_io::{Shelf, Sink};
@@ -23,12 +26,13 @@ use trace_commands::accuse;
 
 /// Does what the words say: it reads and writes blobs of the shelf, puts an answer or one error line to `out`, and says how it ended.
 ///
-/// `prods` counts products and inverses in the field, `looks` the looks into registers.
-pub fn run<S: Shelf, O: Sink, P: Ledger, Q: Ledger>(
+/// Traces find curves with `by`. `prods` counts products and inverses in the field, `looks` the looks into registers.
+pub fn run<S: Shelf, O: Sink, I: Interpolate, P: Ledger, Q: Ledger>(
     alloc: Global,
     words: &[String],
     shelf: &mut S,
     out: &mut O,
+    by: &I,
     prods: &mut Steps<P>,
     looks: &mut Steps<Q>,
 ) -> Status
@@ -76,25 +80,37 @@ pub fn run<S: Shelf, O: Sink, P: Ledger, Q: Ledger>(
     ensures output { KeepsOutput (written_name (deed (request_of (map string_bytes words.now)))) result
         (output O.written O.faults out.old) (output O.written O.faults out.new) }
 
+    // Whatever the status, a command that traces takes no more products and looks than one trace of the register and the word in
+    // the two blobs may take, and none where it is refused before.
+    ensures steps { IfSome (S.holds shelf.old) (λ blobs. TakesAtMost (curve_costs I.cost) (trace_of (request_of (map string_bytes words.now))) blobs
+        (record { products = prods.old; looks = looks.old }) (record { products = prods.new; looks = looks.new })) }
+
+    // Over every store: it takes none, or what one trace of a register and a word that it read may take.
+    ensures steps_untold { SpendsAtMost (curve_costs I.cost) (trace_of (request_of (map string_bytes words.now))) (store S.holds S.counts shelf.old)
+        (record { products = prods.old; looks = looks.old }) (record { products = prods.new; looks = looks.new }) }
+
     // The whole: how the command was performed read by read, and how its answer was delivered.
     ensures ends { Ends (map string_bytes words.now) (store S.holds S.counts shelf.old) (store S.holds S.counts shelf.new)
         result (output O.written O.faults out.old) (output O.written O.faults out.new) }
 {
-    let answer = perform(alloc, words, shelf, prods, looks);
+    let answer = perform(alloc, words, shelf, by, prods, looks);
     put_out(alloc, answer, out)
 }
 
 /// Does what the words say, up to what is to be put out.
-#[tactic(auto, using(outcome_terms::proofs::Readings::reading_rules, outcome_terms::proofs::Readings::performs_rules))]
-fn perform<S: Shelf, P: Ledger, Q: Ledger>(
+#[tactic(auto, using(outcome_terms::proofs::Readings::reading_rules, outcome_terms::proofs::Readings::performs_rules, outcome_terms::proofs::Spending::spending_rules))]
+fn perform<S: Shelf, I: Interpolate, P: Ledger, Q: Ledger>(
     alloc: Global,
     words: &[String],
     shelf: &mut S,
+    by: &I,
     prods: &mut Steps<P>,
     looks: &mut Steps<Q>,
 ) -> Result<Done, Refusal>
-    ensures { Performs (deed (request_of (map string_bytes words.now)))
+    ensures performs { Performs (deed (request_of (map string_bytes words.now)))
         (store S.holds S.counts shelf.old) (store S.holds S.counts shelf.new) (left_text result) }
+    ensures steps { SpendsAtMost (curve_costs I.cost) (trace_of (request_of (map string_bytes words.now))) (store S.holds S.counts shelf.old)
+        (record { products = prods.old; looks = looks.old }) (record { products = prods.new; looks = looks.new }) }
 {
     let Some(command) = read_words(words) else {
         return Err(Refusal::BadWords);
@@ -113,7 +129,7 @@ fn perform<S: Shelf, P: Ledger, Q: Ledger>(
             write_text(alloc, shelf, out, text)
         }
         Command::Accuse { reg, word, c } => {
-            let text = accuse(alloc, shelf, reg, word, c, prods, looks)?;
+            let text = accuse(alloc, shelf, reg, word, c, by, prods, looks)?;
             Ok(Done::Text(text))
         }
     }

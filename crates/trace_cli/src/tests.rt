@@ -2,4 +2,5 @@
 
 mod accuse;
 mod calls;
+mod desk;
 mod registers;

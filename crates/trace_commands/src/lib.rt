@@ -2,9 +2,8 @@
 #![tactic(auto)]
 
 mod accuse_command;
-mod field;
+mod desk_call;
 mod report;
-mod scan;
 mod word;
 
 pub use accuse_command::accuse;

@@ -2,6 +2,7 @@
 
 ghost use Rattle.std.specs.Prelude.{◌≡◌, ◌≤◌, ◌^◌, length, IfOk, IsTrue};
 ghost use Rattle.text_terms.specs.Names.{is_name};
+ghost use Rattle.code_terms.specs.Words.{HasSymbolsBelow};
 ghost use Rattle.code_terms.specs.WordText.{word_of};
 ghost use Rattle.outcome_terms.specs.declared.fault.Fault.TheVariants.{BadWord};
 ghost use Rattle.outcome_terms.specs.Reading.{blob_limit, understood};
@@ -27,6 +28,7 @@ pub fn word_under<S: Shelf>(
     ensures word { Follows (word_under name.now register.now.bits) (store S.holds S.counts shelf.old) (store S.holds S.counts shelf.new) result }
     ensures least { IfOk result (λ word. 1 ≤ length word) }
     ensures most { IfOk result (λ word. length word ≤ 2 ^ register.now.bits) }
+    ensures symbols { IfOk result (HasSymbolsBelow (2 ^ register.now.bits)) }
 {
     let bytes = bytes_under(alloc, shelf, name)?;
     word_of_bytes(alloc, bytes, register.bits())
@@ -39,6 +41,7 @@ fn word_of_bytes(alloc: Global, bytes: Vec<u8>, m: u32) -> Result<Word, Refusal>
     ensures word { Settles result (understood BadWord (word_of m bytes.items)) }
     ensures least { IfOk result (λ word. 1 ≤ length word) }
     ensures most { IfOk result (λ word. length word ≤ 2 ^ m) }
+    ensures symbols { IfOk result (HasSymbolsBelow (2 ^ m)) }
 {
     match Word::read(alloc, bytes.as_slice(), m) {
         Ok(word) => Ok(word),

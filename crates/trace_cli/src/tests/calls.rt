@@ -3,6 +3,8 @@
 ghost use Rattle.std.specs.Prelude.{◌≡◌, ◌<◌};
 
 use crate::run;
+use gs_linear::Linear;
+use gs_params::Interpolate;
 use lists::Memory;
 use shelf_io::{MemShelf, MemSink};
 use std::alloc::Global;
@@ -23,15 +25,27 @@ pub fn call_into(
     out: &mut MemSink,
     line: &str,
 ) -> Result<String, Memory> {
+    call_with(alloc, shelf, out, line, &Linear)
+}
+
+/// The same with this way to find curves.
+pub fn call_with<I: Interpolate>(
+    alloc: Global,
+    shelf: &mut MemShelf,
+    out: &mut MemSink,
+    line: &str,
+    by: &I,
+) -> Result<String, Memory> {
     let mut words = Vec::new(alloc);
     for word in line.split_whitespace() {
         words.push(String::from_str(alloc, word)?)?;
     }
-    let status = counted::<Brand, Brand>(
+    let status = counted::<I, Brand, Brand>(
         alloc,
         words.as_slice(),
         shelf,
         out,
+        by,
         Blank::new(1),
         Blank::new(1),
     );
@@ -40,11 +54,12 @@ pub fn call_into(
     Ok(format!(in alloc; "{status}: {text}")?)
 }
 
-fn counted<P: Ledger, Q: Ledger>(
+fn counted<I: Interpolate, P: Ledger, Q: Ledger>(
     alloc: Global,
     words: &[String],
     shelf: &mut MemShelf,
     out: &mut MemSink,
+    by: &I,
     prods: Blank,
     looks: Blank,
 ) -> u8
@@ -57,7 +72,7 @@ fn counted<P: Ledger, Q: Ledger>(
 {
     let mut prods = Steps::<P>::new(prods);
     let mut looks = Steps::<Q>::new(looks);
-    run(alloc, words, shelf, out, &mut prods, &mut looks).code()
+    run(alloc, words, shelf, out, by, &mut prods, &mut looks).code()
 }
 
 /// A register's text over codewords of `k` symbols of `m` bits, multiplier 1 and shift 0, with so many licensees, `lic0`, `lic1` and so on.

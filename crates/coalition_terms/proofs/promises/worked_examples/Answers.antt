@@ -1,9 +1,9 @@
 use Rattle.std.proofs.Common.{arith}
-use Rattle.coalition_terms.proofs.Examples.{licensees_valid, colluders_enrolled, colluders_explain, one_in_common}
+use Rattle.coalition_terms.proofs.Examples.{licensees_kept, colluders_enrolled, colluders_explain, one_in_common}
 use Rattle.coalition_terms.proofs.promises.worked_examples.Goals as goal
 
-pub returns-clause-valid : goal.returns-clause-valid
-returns-clause-valid c = licensees_valid
+pub returns-clause-kept : goal.returns-clause-kept
+returns-clause-kept c = licensees_kept
 
 pub returns-clause-coalition : goal.returns-clause-coalition
 returns-clause-coalition c = colluders_enrolled

@@ -47,3 +47,7 @@ returns-clause-most_allowed c = refl
 pub returns-clause-whole_copy : goal.returns-clause-whole_copy
 unfolding findings report_text accused_text agreement_of places_of symbol_of power product reduction reduced carryless digits
 returns-clause-whole_copy c = refl
+
+pub returns-clause-no_rule : goal.returns-clause-no_rule
+unfolding findings report_text accused_text agreement_of places_of symbol_of power product reduction reduced carryless digits
+returns-clause-no_rule c = refl

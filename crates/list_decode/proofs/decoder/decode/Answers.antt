@@ -14,7 +14,7 @@ use Rattle.root_terms.specs.YRoots.{AreYRoots}
 use Rattle.rr_roots.proofs.Nodes.{few_elements}
 use Rattle.list_decode.proofs.Bounds.{x_weighs, weight_low, powers_few, search_within, comparing_within}
 use Rattle.list_decode.proofs.Completeness.{kept_are_decoded}
-use Rattle.list_decode.proofs.Refusals.{allowed_bound, granted, answered, some_readable}
+use Rattle.list_decode.proofs.Refusals.{allowed_bound, are_enough, granted, answered, some_readable}
 use Rattle.list_decode.proofs.decoder.decode.Goals as goal
 
 pub params-requires-clause-points : goal.params-requires-clause-points
@@ -53,7 +53,7 @@ returns-in_err-roots-clause-products g c curve most =
     let are : AreParameters (k - 1) bound (readable word) p.t p.s p.e =
     subst (λ t. AreParameters (t - 1) bound (readable word) p.t p.s p.e) c.k.ensures.value
     (subst (λ t. AreParameters (c.k.result - 1) bound t p.t p.s p.e) c.readable.ensures c.in_ok-chosen.ensures.chosen) in
-    let cost : g.I.Interpolate.cost p ≤ curve = most p weight_is (c.in_ok-chosen.ensures.points ∙ c.readable.ensures) are in
+    let cost : g.I.Interpolate.cost p ≤ curve = most (are_enough g.F.Field.BITS k bound word (omega (arith, c.k.ensures.range.0, c.k.ensures.value)) none) p weight_is (c.in_ok-chosen.ensures.points ∙ c.readable.ensures) are in
     let first : c.curve.new.prods ≤ c.args.prods.now + curve = omega (arith, c.curve.ensures.products) in
     let second : c.poly_roots.new.prods ≤ c.curve.new.prods + k * ((greatest y_power q + 1) * (greatest y_power q + 1) * (256 + p.e * (greatest y_power q + 1))) =
     subst (λ t. greatest (weight_by (t - 1)) q < p.e → c.poly_roots.new.prods ≤ c.curve.new.prods + t * ((greatest y_power q + 1) * (greatest y_power q + 1) * (256 + p.e * (greatest y_power q + 1))))
@@ -97,7 +97,7 @@ returns-in_err-messages-clause-products g c curve most =
     let are : AreParameters (k - 1) bound (readable word) p.t p.s p.e =
     subst (λ t. AreParameters (t - 1) bound (readable word) p.t p.s p.e) c.k.ensures.value
     (subst (λ t. AreParameters (c.k.result - 1) bound t p.t p.s p.e) c.readable.ensures c.in_ok-chosen.ensures.chosen) in
-    let cost : g.I.Interpolate.cost p ≤ curve = most p weight_is (c.in_ok-chosen.ensures.points ∙ c.readable.ensures) are in
+    let cost : g.I.Interpolate.cost p ≤ curve = most (are_enough g.F.Field.BITS k bound word (omega (arith, c.k.ensures.range.0, c.k.ensures.value)) none) p weight_is (c.in_ok-chosen.ensures.points ∙ c.readable.ensures) are in
     let first : c.curve.new.prods ≤ c.args.prods.now + curve = omega (arith, c.curve.ensures.products) in
     let second : c.poly_roots.new.prods ≤ c.curve.new.prods + k * ((greatest y_power q + 1) * (greatest y_power q + 1) * (256 + p.e * (greatest y_power q + 1))) =
     subst (λ t. greatest (weight_by (t - 1)) q < p.e → c.poly_roots.new.prods ≤ c.curve.new.prods + t * ((greatest y_power q + 1) * (greatest y_power q + 1) * (256 + p.e * (greatest y_power q + 1))))
@@ -189,7 +189,7 @@ returns-clause-products g c curve most =
     let are : AreParameters (k - 1) bound (readable word) p.t p.s p.e =
     subst (λ t. AreParameters (t - 1) bound (readable word) p.t p.s p.e) c.k.ensures.value
     (subst (λ t. AreParameters (c.k.result - 1) bound t p.t p.s p.e) c.readable.ensures c.in_ok-chosen.ensures.chosen) in
-    let cost : g.I.Interpolate.cost p ≤ curve = most p weight_is (c.in_ok-chosen.ensures.points ∙ c.readable.ensures) are in
+    let cost : g.I.Interpolate.cost p ≤ curve = most (are_enough g.F.Field.BITS k bound word (omega (arith, c.k.ensures.range.0, c.k.ensures.value)) none) p weight_is (c.in_ok-chosen.ensures.points ∙ c.readable.ensures) are in
     let first : c.curve.new.prods ≤ c.args.prods.now + curve = omega (arith, c.curve.ensures.products) in
     let second : c.poly_roots.new.prods ≤ c.curve.new.prods + k * ((greatest y_power q + 1) * (greatest y_power q + 1) * (256 + p.e * (greatest y_power q + 1))) =
     subst (λ t. greatest (weight_by (t - 1)) q < p.e → c.poly_roots.new.prods ≤ c.curve.new.prods + t * ((greatest y_power q + 1) * (greatest y_power q + 1) * (256 + p.e * (greatest y_power q + 1))))

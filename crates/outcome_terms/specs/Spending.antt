@@ -1,0 +1,32 @@
+-- What a call of a command may take, by the trace that it makes. This project's own.
+use Rattle.std.specs.Prelude.{◌≡◌, ℕ, Option, Some, None, Result, Ok, Err, ⊤}
+use Rattle.shelf_terms.specs.Blobs.{Blobs}
+use Rattle.outcome_terms.specs.declared.refusal.Refusal.{Refusal}
+use Rattle.outcome_terms.specs.Reading.{Reading, given}
+use Rattle.outcome_terms.specs.Request.{Request, Accuse}
+use Rattle.outcome_terms.specs.Stores.{Store, Follows}
+use Rattle.outcome_terms.specs.Traces.{Trace, Counted, IsWithin}
+use Rattle.outcome_terms.specs.AccuseCommand.{accuse_trace}
+
+-- the trace that a command makes; one line a command that traces
+abbrev pub trace_of : Option Request → Option (Reading Trace)
+trace_of (Some (Accuse register word c)) = Some (accuse_trace register word c)
+trace_of request = None
+
+-- Over every store: nothing is taken, or what one trace may take, where its register and word were read.
+pub data Spends (costs : Trace → ℕ → Type 0) (reading : Reading Trace) (s : Store) (old new : Counted) : Type 0 where
+  nothing : new ≡ old → Spends costs reading s old new
+  traced : {t : Store} {trace : Trace} → Follows reading s t (Ok trace) → IsWithin costs trace old new → Spends costs reading s old new
+
+abbrev pub SpendsAtMost : (Trace → ℕ → Type 0) → Option (Reading Trace) → Store → Counted → Counted → Type 0
+SpendsAtMost costs None s old new = ⊤
+SpendsAtMost costs (Some reading) s old new = Spends costs reading s old new
+
+-- Over blobs that are told: what the trace of their register and word may take, and nothing where a refusal comes before it.
+abbrev pub TakesGiven : (Trace → ℕ → Type 0) → Result Trace Refusal → Counted → Counted → Type 0
+TakesGiven costs (Ok trace) old new = IsWithin costs trace old new
+TakesGiven costs (Err e) old new = new ≡ old
+
+abbrev pub TakesAtMost : (Trace → ℕ → Type 0) → Option (Reading Trace) → Blobs → Counted → Counted → Type 0
+TakesAtMost costs None blobs old new = ⊤
+TakesAtMost costs (Some reading) blobs old new = TakesGiven costs (given blobs reading) old new

@@ -1,7 +1,0 @@
-use Rattle.trace_cli.proofs.tests.calls.call_into.Given as goal
-
-abbrev pub ghosts-counted-P-Ledger : goal.ghosts-counted-P-Ledger
-ghosts-counted-P-Ledger a = record { name = a.prods.name; parts = a.prods.parts }
-
-abbrev pub ghosts-counted-Q-Ledger : goal.ghosts-counted-Q-Ledger
-ghosts-counted-Q-Ledger a = record { name = a.looks.name; parts = a.looks.parts }

@@ -1,0 +1,247 @@
+//! The decoder and the desk by curves that linear algebra finds, and the program where no curve is found.
+
+ghost use Rattle.std.specs.Prelude.{◌≡◌, ◌<◌, IfOk, IfSome, [], ◌∷◌, Some};
+ghost use Rattle.code_terms.specs.Words.{three_colluders};
+
+use super::calls::{call_with, register, shelf};
+use bi_poly::BiPoly;
+use desk_terms::{Accused, Findings};
+use gf2m::{Field, Gf};
+use gs_linear::Linear;
+use gs_params::{Interpolate, Params};
+use lic_register::Licensee;
+use list_decode::{DecodeError, decode};
+use lists::Memory;
+use rs_code::{Code, Message, Word};
+use shelf_io::MemSink;
+use std::alloc::Global;
+use std::marker::Brand;
+use std::process::Abort;
+use std::sync::ledger::Blank;
+use std::test::Fail;
+use steps::{Ledger, Steps};
+use trace_desk::{Book, accuse};
+
+/// Finds no curve, at no cost.
+struct NoCurve;
+
+impl Interpolate for NoCurve {
+    ghost cost = { λ _. 0 };
+
+    fn curve<F: Field, P: Ledger>(
+        &self,
+        _alloc: Global,
+        _points: &[(F, F)],
+        _params: &Params,
+        _prods: &mut Steps<P>,
+    ) -> Result<BiPoly<F>, Memory> {
+        Err(Memory)
+    }
+}
+
+/// What the program puts out for a word against twenty licensees, where no curve is found.
+fn without_curves(alloc: Global, word: &str) -> Result<String, Memory> {
+    let twenty = register(alloc, 4, 2, 20)?;
+    let mut shelf = shelf(alloc, twenty.as_str(), word)?;
+    let mut out = MemSink::new(alloc);
+    call_with(alloc, &mut shelf, &mut out, "accuse reg w 3", &NoCurve)
+}
+
+/// Whoever is accused is found by a curve, and too few readable places are told without one.
+#[test]
+fn no_curve_is_found(rt: HostRuntime) -> Result<(), Fail> {
+    let alloc = rt.alloc();
+    let enough = without_curves(alloc, "0,1,2,3,0,0,0,1,1,1")?;
+    assert_eq!(rt; enough.as_str(), "1: error 1 memory\n");
+    let too_few = without_curves(alloc, "0,1,2,3,0,0,0,1,1,-")?;
+    assert_eq!(rt; too_few.as_str(), "15: error 15 9 9\n");
+    Ok(())
+}
+
+/// Three licensees whose messages follow no rule.
+struct ThreeEntries;
+
+impl Book for ThreeEntries {
+    ghost use Rattle.desk_terms.specs.Examples.{three_entries};
+
+    ghost roll = { λ _. three_entries };
+
+    fn bits(&self) -> u32 {
+        4
+    }
+
+    fn dimension(&self) -> u32 {
+        2
+    }
+
+    fn by_message<Q: Ledger>(
+        &self,
+        message: Message,
+        looks: &mut Steps<Q>,
+    ) -> Option<(u32, Licensee<'_>)> {
+        looks.tick();
+        match message.number() {
+            16 => Some((0, active("u"))),
+            200 => Some((1, active("v"))),
+            0 => Some((2, active("w"))),
+            _ => None,
+        }
+    }
+}
+
+/// An active licensee of this name.
+fn active(name: &str) -> Licensee<'_>
+    ensures { result.name.now ≡ name.now }
+{
+    Licensee { name, active: true }
+}
+
+/// The word that three colluders made.
+fn colluders_word(alloc: Global) -> Result<Word, Memory>
+    ensures { IfOk result (λ word. word ≡ three_colluders) }
+{
+    Word::of(
+        alloc,
+        &[
+            Some(0),
+            Some(1),
+            Some(2),
+            Some(3),
+            Some(0),
+            Some(0),
+            Some(0),
+            Some(1),
+            Some(1),
+            Some(1),
+        ],
+    )
+}
+
+/// Whom the desk finds in that word among the three.
+fn found_among_three<P: Ledger, Q: Ledger>(
+    alloc: Global,
+    prods: Blank,
+    looks: Blank,
+) -> Result<String, Memory>
+    requires prods_name { prods.name ≡ P.name }
+    requires prods_parts { prods.parts ≡ P.parts }
+    requires prods_some { 0 < P.parts }
+    requires looks_name { looks.name ≡ Q.name }
+    requires looks_parts { looks.parts ≡ Q.parts }
+    requires looks_some { 0 < Q.parts }
+{
+    let mut prods = Steps::<P>::new(prods);
+    let mut looks = Steps::<Q>::new(looks);
+    let word = colluders_word(alloc)?;
+    let code = Code::<Gf<4>>::new(10, 2).unwrap();
+    match accuse(
+        alloc,
+        &ThreeEntries,
+        &code,
+        &word,
+        3,
+        &Linear,
+        &mut prods,
+        &mut looks,
+    ) {
+        Ok(findings) => told(alloc, &findings),
+        Err(_) => Ok(String::from_str(alloc, "refused")?),
+    }
+}
+
+fn told(alloc: Global, findings: &Findings) -> Result<String, Memory> {
+    let mut text = String::new(alloc);
+    for one in findings.accused.as_slice() {
+        add_accused(&mut text, one)?;
+    }
+    Ok(text)
+}
+
+fn add_accused(text: &mut String, one: &Accused) -> Result<(), Memory> {
+    let serial = one.serial;
+    let name = one.name.as_str();
+    write!(text, "{serial} {name}")?;
+    for place in one.places.as_slice() {
+        write!(text, " {place}")?;
+    }
+    text.push('\n')?;
+    Ok(())
+}
+
+/// The licensees of the messages 16 and 0 are accused, in order of serial; the third message of the word is nobody's.
+#[test]
+fn a_book_without_a_rule(rt: HostRuntime) -> Result<(), Fail> {
+    let got = found_among_three::<Brand, Brand>(rt.alloc(), Blank::new(1), Blank::new(1))?;
+    assert_eq!(rt; got.as_str(), "0 u 0 1 2 3\n2 w 0 4 5 6\n");
+    Ok(())
+}
+
+/// What is decoded of the colluders' word with this last slot, for coalitions of `c`.
+fn decoded<P: Ledger>(
+    alloc: Global,
+    last: Option<u8>,
+    c: u32,
+    prods: &mut Steps<P>,
+) -> Result<String, Memory>
+    requires { IfSome last (λ v. v < 16) }
+{
+    let word = word_ending(alloc, last)?;
+    let code = Code::<Gf<4>>::new(10, 2).unwrap();
+    match decode(alloc, &code, &word, c, &Linear, prods) {
+        Ok(messages) => numbers(alloc, messages.as_slice()),
+        Err(DecodeError::BadBound) => Ok(String::from_str(alloc, "bad bound")?),
+        Err(DecodeError::TooFew(readable)) => Ok(format!(in alloc; "too few: {readable}")?),
+        Err(DecodeError::Memory) => Err(Memory),
+    }
+}
+
+fn word_ending(alloc: Global, last: Option<u8>) -> Result<Word, Memory>
+    ensures { IfOk result (λ word. word ≡ Some 0 ∷ Some 1 ∷ Some 2 ∷ Some 3 ∷ Some 0 ∷ Some 0 ∷ Some 0 ∷ Some 1 ∷ Some 1 ∷ last ∷ []) }
+{
+    Word::of(
+        alloc,
+        &[
+            Some(0),
+            Some(1),
+            Some(2),
+            Some(3),
+            Some(0),
+            Some(0),
+            Some(0),
+            Some(1),
+            Some(1),
+            last,
+        ],
+    )
+}
+
+fn numbers(alloc: Global, messages: &[Message]) -> Result<String, Memory> {
+    let mut text = String::new(alloc);
+    for message in messages {
+        let number = message.number();
+        write!(text, "{number};")?;
+    }
+    Ok(text)
+}
+
+fn decodes<P: Ledger>(rt: &impl Abort, alloc: Global, prods: Blank) -> Result<(), Fail>
+    requires name { prods.name ≡ P.name }
+    requires parts { prods.parts ≡ P.parts }
+    requires some { 0 < P.parts }
+{
+    let mut prods = Steps::<P>::new(prods);
+    let three = decoded(alloc, Some(1), 3, &mut prods)?;
+    assert_eq!(rt; three.as_str(), "0;1;16;");
+    let too_few = decoded(alloc, None, 3, &mut prods)?;
+    assert_eq!(rt; too_few.as_str(), "too few: 9");
+    let none = decoded(alloc, None, 2, &mut prods)?;
+    assert_eq!(rt; none.as_str(), "");
+    let bad_bound = decoded(alloc, None, 9, &mut prods)?;
+    assert_eq!(rt; bad_bound.as_str(), "bad bound");
+    Ok(())
+}
+
+#[test]
+fn messages_are_decoded(rt: HostRuntime) -> Result<(), Fail> {
+    decodes::<Brand>(&rt, rt.alloc(), Blank::new(1))
+}

@@ -1,0 +1,5 @@
+pub mod Books
+pub mod Known
+pub mod Findings
+pub mod Tracing
+pub mod CurveCosts

@@ -1,0 +1,22 @@
+-- What the desk answers. This project's own.
+use Rattle.std.specs.Prelude.{◌≡◌, ℕ, nat_lt, if◌then◌else◌, List, Option, Result, Ok, Err}
+use Rattle.code_terms.specs.Words.{readable}
+use Rattle.decoding_terms.specs.Parameters.{is_allowed_bound}
+use Rattle.decoder_terms.specs.Decoding.{least_readable}
+use Rattle.desk_terms.specs.declared.findings.Findings.{Findings}
+use Rattle.desk_terms.specs.Findings.{findings}
+use Rattle.desk_terms.specs.Roll.{Roll}
+use Rattle.trace_desk.specs.declared.desk_error.DeskError.{DeskError}
+use Rattle.trace_desk.specs.declared.desk_error.DeskError.TheVariants.{BadBound, TooFew, Memory}
+
+-- the findings; refused are first a bound that codes of this dimension don't allow, and then too few readable places
+abbrev pub tracing : Roll → List (Option ℕ) → ℕ → Result Findings DeskError
+tracing roll word c =
+    if is_allowed_bound roll.dimension c then (if nat_lt (least_readable roll.dimension c) (readable word) then Ok (findings roll word c) else Err (TooFew (readable word))) else Err BadBound
+
+-- what is wanted is answered; only want of memory may come in place of it
+abbrev pub TracesAs : Result Findings DeskError → Result Findings DeskError → Type 0
+TracesAs (Ok found) wanted = wanted ≡ Ok found
+TracesAs (Err BadBound) wanted = wanted ≡ Err BadBound
+TracesAs (Err (TooFew r)) wanted = wanted ≡ Err (TooFew r)
+TracesAs (Err Memory) wanted = Unit {0}
