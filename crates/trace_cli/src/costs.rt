@@ -1,17 +1,17 @@
 //! What the curves of the program cost.
 
 ghost use Rattle.std.specs.Prelude.{ℕ, ◌≤◌};
-ghost use Rattle.desk_terms.specs.Bounds.{linear_curve_bound};
+ghost use Rattle.desk_terms.specs.Bounds.{iterative_curve_bound};
 ghost use Rattle.list_decode.specs.Answers.{CostsAtMost};
 
-use gs_linear::Linear;
+use gs_koetter::Koetter;
 use gs_params::Interpolate;
 
 /// How the program finds the curve of a trace.
-pub const CURVES: Linear = Linear;
+pub const CURVES: Koetter = Koetter;
 
-/// With `Linear` handed in, the curve of a word of at most n places costs no more than the first term of `product_bound`; so
-/// `run` takes no more products than that.
+/// With `Koetter` handed in, the curve of a word of at most n places costs no more than the first term of
+/// `iterative_product_bound`; so `run` takes no more products than that.
 pub fn curves_cost()
-    ensures { (n k c r : ℕ) → r ≤ n → CostsAtMost ⟦<Linear as Interpolate>⟧.cost k c r (linear_curve_bound n k c) }
+    ensures { (n k c r : ℕ) → r ≤ n → CostsAtMost ⟦<Koetter as Interpolate>⟧.cost k c r (iterative_curve_bound n k c) }
 {}
