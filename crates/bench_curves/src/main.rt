@@ -101,7 +101,10 @@ fn coalition<F: Field, P: Ledger>(
     'points: for i in 0..job.r {
         let member = next(&mut number) % job.c.max(1);
         let x = element::<F>(i);
-        points.push((x, value(job.k, seed.wrapping_add(member.wrapping_mul(77)), x, prods)))?;
+        points.push((
+            x,
+            value(job.k, seed.wrapping_add(member.wrapping_mul(77)), x, prods),
+        ))?;
     }
     Ok(points)
 }

@@ -243,3 +243,21 @@ fn failures_of_the_output(rt: HostRuntime) -> Result<(), Fail> {
     }
     Ok(())
 }
+
+/// A whole copy over GF(32), k = 3: the curve has multiplicity 3 at each of nineteen points.
+#[test]
+fn nineteen_places(rt: HostRuntime) -> Result<(), Fail> {
+    let alloc = rt.alloc();
+    let twenty = register(alloc, 5, 3, 20)?;
+    let got = answer(
+        alloc,
+        twenty.as_str(),
+        "0,0,0,0,0,0,0,0,0,0,0,0,0,0,0,0,0,0,0",
+        "accuse reg w 3",
+    )?;
+    assert_eq!(rt;
+        got.as_str(),
+        "0: {\"accused\":[{\"name\":\"lic0\",\"places\":[0,1,2,3,4,5,6,7,8,9,10,11,12,13,14,15,16,17,18],\"serial\":0}],\"bound\":3,\"readable\":19}\n"
+    );
+    Ok(())
+}

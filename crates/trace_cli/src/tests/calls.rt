@@ -3,6 +3,7 @@
 ghost use Rattle.std.specs.Prelude.{◌≡◌, ◌<◌};
 
 use crate::run;
+use gs_koetter::Koetter;
 use gs_linear::Linear;
 use gs_params::Interpolate;
 use lists::Memory;
@@ -92,8 +93,15 @@ pub fn shelf(alloc: Global, register: &str, word: &str) -> Result<MemShelf, Memo
     Ok(shelf)
 }
 
-/// What a call over this register and this word put out, with its status in front.
+/// What a call that only reads put out over this register and this word, with its status in front. Curves are found in both
+/// ways, and where they don't lead to the same, both answers stand there.
 pub fn answer(alloc: Global, register: &str, word: &str, line: &str) -> Result<String, Memory> {
     let mut shelf = shelf(alloc, register, word)?;
-    call(alloc, &mut shelf, line)
+    let by_algebra = call(alloc, &mut shelf, line)?;
+    let mut out = MemSink::new(alloc);
+    let by_steps = call_with(alloc, &mut shelf, &mut out, line, &Koetter)?;
+    if by_algebra.as_str() == by_steps.as_str() {
+        return Ok(by_steps);
+    }
+    Ok(format!(in alloc; "{by_algebra} and {by_steps}")?)
 }
