@@ -2,7 +2,7 @@
 
 ghost use Rattle.std.specs.Prelude.{◌≡◌, ◌<◌, IfOk, OnOk, OnErr};
 ghost use Rattle.std.specs.FinMap.{empty};
-ghost use Rattle.algebra.specs.Bivariate.{IsProper, IsWithin, coefficient};
+ghost use Rattle.algebra.specs.Bivariate.{coefficient};
 ghost use Rattle.bi_poly.specs.Results.{with_coefficient};
 
 use crate::row::Row;
@@ -78,13 +78,5 @@ impl<F: Field> BiPoly<F> {
         ensures { result ≡ coefficient F.ring self.now i j }
     {
         cell(&self.rows, i, j)
-    }
-
-    /// Does nothing, and tells its caller what holds of every polynomial of this type.
-    pub fn tell(&self)
-        ensures proper { IsProper F.ring self.now }
-        ensures limits { IsWithin 65536 4096 self.now }
-    {
-        let _ = &self.rows;
     }
 }

@@ -2,6 +2,7 @@
 
 ghost use Rattle.std.specs.Prelude.{◌≡◌, ◌≢◌, ℕ, ◌+◌, ◌<◌, ◌≤◌, length};
 ghost use Rattle.std.specs.FinMap.{empty};
+ghost use Rattle.algebra.specs.Bivariate.{IsProper};
 ghost use Rattle.algebra.specs.Lists.{coefficients};
 ghost use Rattle.bi_poly.specs.Results.{IsPowerOfX, IsStripped};
 ghost use Rattle.bi_poly.specs.Rows.{cell};
@@ -17,6 +18,7 @@ impl<F: Field> BiPoly<F> {
     /// Divides by the greatest power of x that divides the polynomial, and answers the power.
     pub fn strip_x(&mut self) -> usize
         requires { self.old ≢ empty }
+        ensures proper { IsProper F.ring self.old }
         ensures power { IsPowerOfX result self.old }
         ensures divided { IsStripped result self.old self.new }
     {

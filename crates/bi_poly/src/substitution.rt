@@ -1,7 +1,7 @@
 //! Polynomials put in place of y, and zero in place of x.
 
-ghost use Rattle.std.specs.Prelude.{◌≡◌, ℕ, IfOk};
-ghost use Rattle.algebra.specs.Bivariate.{coefficient, substituted};
+ghost use Rattle.std.specs.Prelude.{◌≡◌, ℕ, IfOk, OnOk};
+ghost use Rattle.algebra.specs.Bivariate.{IsWithin, coefficient, substituted};
 ghost use Rattle.algebra.specs.Lists.{IsListOf, coefficients};
 
 use crate::bivariate::BiPoly;
@@ -29,7 +29,8 @@ impl<F: Field> BiPoly<F> {
 
     /// Q(0, y), as a polynomial in y. The only error is want of memory.
     pub fn at_zero(&self) -> Result<Poly<F>, Memory>
-        ensures { IfOk result (λ p. IsListOf F.ring (λ j. coefficient F.ring self.now 0 j) p) }
+        ensures value { IfOk result (λ p. IsListOf F.ring (λ j. coefficient F.ring self.now 0 j) p) }
+        ensures limits { OnOk result (IsWithin 65536 4096 self.now) }
     {
         let mut column = Vec::with_capacity(self.alloc, self.rows.len())?;
         'rows: for j in 0..self.rows.len() {

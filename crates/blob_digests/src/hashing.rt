@@ -8,10 +8,10 @@ ghost use Rattle.shelf_io.specs.Reads.{fetch_failed, fetch_missed};
 ghost use Rattle.blob_digests.specs.Digests.{DigestGives, Stands};
 
 use crate::digest::Digest;
-use shelf_terms::BLOB_LIMIT;
 use lists::Memory;
 use sha2::{Digest as _, Sha256};
 use shelf_io::{FetchError, Shelf, Taker, pour};
+use shelf_terms::BLOB_LIMIT;
 use std::alloc::Global;
 
 /// The SHA-256 of the blob of the name, if it has at most `BLOB_LIMIT` bytes. Each part is hashed when it comes, and none is
@@ -21,7 +21,8 @@ pub fn digest_of<S: Shelf>(alloc: Global, shelf: &mut S, name: &str) -> Result<D
     // Where the blobs are told, which digest it is, or why there is none.
     ensures digest { DigestGives (S.holds shelf.old) name.now result }
     ensures same { S.holds shelf.new ≡ S.holds shelf.old }
-    ensures causes { ReadCauses (S.counts shelf.old) (S.counts shelf.new) name.now (fetch_failed result) (fetch_missed result) }
+    ensures causes { ReadCauses (S.counts shelf.old) (S.counts shelf.new) name.now
+        (fetch_failed result) (fetch_missed result) }
 {
     let mut hashing = Hashing::new();
     match pour(alloc, shelf, name, BLOB_LIMIT, &mut hashing) {

@@ -20,7 +20,7 @@ pub fn decoded_is_told()
 pub fn worked_examples()
     ensures three { decoded 4 2 three_colluders 3 ≡ 0 ∷ 1 ∷ 16 ∷ [] }
     ensures one { decoded 4 2 (Some 5 ∷ Some 5 ∷ []) 1 ≡ 5 ∷ [] }
-    ensures needed { not_enough 2 3 ≡ 9 }
+    ensures nine_not_enough { not_enough 2 3 ≡ 9 }
     ensures roots { root_bound 10 2 3 ≡ 143650 }
     ensures products { decoding_bound 0 10 2 3 ≡ 143910 }
 {}

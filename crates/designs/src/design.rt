@@ -62,7 +62,8 @@ impl Design {
         marked: &[u32],
     ) -> Result<Design, DesignError>
         // Which design it is, or the first rule that is broken.
-        ensures { Gives result (design_from (of_numbers name.now m k c prefix.now suffix.now marked.now)) }
+        ensures { Gives result (design_from
+            (of_numbers name.now m k c prefix.now suffix.now marked.now)) }
     {
         let marks = numbers(alloc, marked)?;
         let wanted = Wanted {

@@ -70,7 +70,8 @@ fn fields_in(table: &Table) -> Result<Fields<'_>, DesignFault>
 
 /// The text at a key.
 fn text_at<'t>(table: &'t Table, name: &str, key: Key) -> Result<&'t str, DesignFault>
-    ensures { Finds (λ text. text.now) result (text_said key (get_member name.now (table_view table.now))) }
+    ensures { Finds (λ text. text.now) result
+        (text_said key (get_member name.now (table_view table.now))) }
 {
     match value_at(table, name) {
         None => Err(DesignFault::Missing(key)),
@@ -81,7 +82,8 @@ fn text_at<'t>(table: &'t Table, name: &str, key: Key) -> Result<&'t str, Design
 
 /// The whole number at a key: `None` where it is below 0.
 fn number_at(table: &Table, name: &str, key: Key) -> Result<Option<u64>, DesignFault>
-    ensures { Finds (λ number. number) result (number_said key (get_member name.now (table_view table.now))) }
+    ensures { Finds (λ number. number) result
+        (number_said key (get_member name.now (table_view table.now))) }
 {
     match value_at(table, name) {
         None => Err(DesignFault::Missing(key)),
@@ -92,7 +94,8 @@ fn number_at(table: &Table, name: &str, key: Key) -> Result<Option<u64>, DesignF
 
 /// The list at a key.
 fn list_at<'t>(table: &'t Table, name: &str, key: Key) -> Result<&'t Vec<Value>, DesignFault>
-    ensures { Finds (λ items. marks_said (items_view items.now.items)) result (list_said key (get_member name.now (table_view table.now))) }
+    ensures { Finds (λ items. marks_said (items_view items.now.items)) result
+        (list_said key (get_member name.now (table_view table.now))) }
 {
     match value_at(table, name) {
         None => Err(DesignFault::Missing(key)),

@@ -20,7 +20,7 @@ pub fn worked_examples()
         (findings (roll_of (first_licensees 20)) three_colluders 3)
         ≡ codes "{\"accused\":[{\"name\":\"lic0\",\"places\":[0,4,5,6],\"serial\":0},{\"name\":\"lic1\",\"places\":[1,7,8,9],\"serial\":1},{\"name\":\"lic16\",\"places\":[0,1,2,3],\"serial\":16}],\"bound\":3,\"readable\":10}\n" }
     ensures too_few { readable one_place_lost ≡ 9 }
-    ensures needed { not_enough 2 3 ≡ 9 }
+    ensures nine_not_enough { not_enough 2 3 ≡ 9 }
     ensures nobody { report_text (findings (roll_of (first_licensees 20)) one_place_lost 2)
         ≡ codes "{\"accused\":[],\"bound\":2,\"readable\":9}\n" }
     ensures met_exactly { report_text (findings (roll_of (first_licensees 20)) (Some 5 ∷ Some 5

@@ -65,11 +65,14 @@ pub(crate) fn cancel_all<F: Field, P: Ledger>(
     prods: &mut Steps<P>,
 )
     requires inside { place < length pivot.now.tile.items }
-    requires room { (j : ℕ) (c : Curve F) → slot curves.old j ≡ Some c → HasRoom F.ring pivot.now c }
+    requires room { (j : ℕ) (c : Curve F) → slot curves.old j ≡ Some c
+        → HasRoom F.ring pivot.now c }
     requires ended { IsEnded F.ring pivot.now }
-    ensures value { (j : ℕ) → AreCancelled F.ring place inverse pivot.now (slot curves.old j) (slot curves.new j) }
+    ensures value { (j : ℕ) → AreCancelled F.ring place inverse pivot.now (slot curves.old j)
+        (slot curves.new j) }
     ensures count { length curves.new ≡ length curves.old }
-    ensures products { prods.new ≤ prods.old + length curves.old * (1 + pivot.now.len + length pivot.now.tile.items) }
+    ensures products { prods.new ≤ prods.old
+        + length curves.old * (1 + pivot.now.len + length pivot.now.tile.items) }
 {
     'curves: for slot in curves.iter_mut() {
         if let Some(curve) = slot {
@@ -81,8 +84,11 @@ pub(crate) fn cancel_all<F: Field, P: Ledger>(
 /// How long the curve is, where one is kept whose derivative at the place is not zero.
 fn length_at<F: Field>(slot: &Option<Curve<F>>, place: usize) -> Option<usize>
     requires { (c : Curve F) → slot.now ≡ Some c → place < length c.tile.items }
-    ensures some { (n : ℕ) → result ≡ Some n → (c : Curve F) × (slot.now ≡ Some c) × (at_place F.ring place c ≢ F.ring.nil) × (n ≡ c.len) }
-    ensures none { result ≡ None → (c : Curve F) → slot.now ≡ Some c → at_place F.ring place c ≡ F.ring.nil }
+    ensures some { (n : ℕ) → result ≡ Some n
+        → (c : Curve F) × (slot.now ≡ Some c) × (at_place F.ring place c ≢ F.ring.nil)
+        × (n ≡ c.len) }
+    ensures none { result ≡ None → (c : Curve F) → slot.now ≡ Some c
+        → at_place F.ring place c ≡ F.ring.nil }
 {
     match slot {
         Some(curve) => {
@@ -123,7 +129,8 @@ fn better(best: Option<Candidate>, place: usize, length: Option<usize>) -> Optio
 /// Among the curves whose derivative at the place is not zero, one with the least leading term.
 pub(crate) fn shortest<F: Field>(curves: &[Option<Curve<F>>], place: usize) -> Option<usize>
     requires { (j : ℕ) (c : Curve F) → slot curves.now j ≡ Some c → place < length c.tile.items }
-    ensures none { result ≡ None → (j : ℕ) (c : Curve F) → slot curves.now j ≡ Some c → at_place F.ring place c ≡ F.ring.nil }
+    ensures none { result ≡ None → (j : ℕ) (c : Curve F) → slot curves.now j ≡ Some c
+        → at_place F.ring place c ≡ F.ring.nil }
     ensures some { (p : ℕ) → result ≡ Some p → IsPivot F.ring place curves.now p }
 {
     let mut best = None;

@@ -22,15 +22,20 @@ pub(crate) fn handle<F: Field, P: Ledger>(
     prods: &mut Steps<P>,
 )
     requires place { place < length frame.now.orders.terms.items }
-    requires shape { HaveShape F.ring frame.now.terms.w frame.now.terms.e frame.now.orders.e curves.old }
+    requires shape { HaveShape F.ring frame.now.terms.w frame.now.terms.e frame.now.orders.e
+        curves.old }
     requires spare { IsSpare frame.now.terms.w frame.now.terms.e frame.now.orders.e spare.old }
     ensures count { length curves.new ≡ length curves.old }
-    ensures shape { HaveShape F.ring frame.now.terms.w frame.now.terms.e frame.now.orders.e curves.new }
+    ensures shape { HaveShape F.ring frame.now.terms.w frame.now.terms.e frame.now.orders.e
+        curves.new }
     ensures spare { IsSpare frame.now.terms.w frame.now.terms.e frame.now.orders.e spare.new }
     ensures state { (i handled : ℕ) (points : ℕ → F × F) (b : F) → points i ≡ (a, b)
-        → IsState F.ring frame.now.terms.w frame.now.terms.e (length curves.old) frame.now.orders.e (Handled points frame.now.orders.e i place) a b handled curves.old
-        → IsState F.ring frame.now.terms.w frame.now.terms.e (length curves.old) frame.now.orders.e (Handled points frame.now.orders.e i (suc place)) a b (suc handled) curves.new }
-    ensures products { prods.new ≤ prods.old + step_products frame.now.terms.w frame.now.terms.e frame.now.orders.e (length curves.old) }
+        → IsState F.ring frame.now.terms.w frame.now.terms.e (length curves.old) frame.now.orders.e
+        (Handled points frame.now.orders.e i place) a b handled curves.old
+        → IsState F.ring frame.now.terms.w frame.now.terms.e (length curves.old) frame.now.orders.e
+        (Handled points frame.now.orders.e i (suc place)) a b (suc handled) curves.new }
+    ensures products { prods.new ≤ prods.old
+        + step_products frame.now.terms.w frame.now.terms.e frame.now.orders.e (length curves.old) }
 {
     let Some(p) = shortest(curves, place) else {
         return;
@@ -59,9 +64,13 @@ fn multiplied<F: Field, P: Ledger>(
 ) -> Option<Curve<F>>
     requires shape { HasShape F.ring frame.now.terms.w frame.now.terms.e frame.now.orders.e j curve }
     requires spare { IsSpare frame.now.terms.w frame.now.terms.e frame.now.orders.e spare.old }
-    ensures product { IfSome result (λ new. IsProduct F.ring frame.now.terms.quotients.items frame.now.orders.quotients.items a curve new) }
-    ensures shape { IfSome result (λ new. HasShape F.ring frame.now.terms.w frame.now.terms.e frame.now.orders.e j new) }
-    ensures dropped { result ≡ None → frame.now.terms.e ≤ suc curve.exponent + frame.now.terms.w * j }
+    ensures product { IfSome result
+        (λ new. IsProduct F.ring frame.now.terms.quotients.items frame.now.orders.quotients.items a
+        curve new) }
+    ensures shape { IfSome result
+        (λ new. HasShape F.ring frame.now.terms.w frame.now.terms.e frame.now.orders.e j new) }
+    ensures dropped { result ≡ None
+        → frame.now.terms.e ≤ suc curve.exponent + frame.now.terms.w * j }
     ensures spare { IsSpare frame.now.terms.w frame.now.terms.e frame.now.orders.e spare.new }
     ensures products { prods.new ≤ prods.old + term_count frame.now.terms.w frame.now.terms.e }
 {
@@ -85,15 +94,20 @@ fn step<F: Field, P: Ledger>(
 )
     requires place { place < length frame.now.orders.terms.items }
     requires pivot { IsPivot F.ring place curves.old p }
-    requires shape { HaveShape F.ring frame.now.terms.w frame.now.terms.e frame.now.orders.e curves.old }
+    requires shape { HaveShape F.ring frame.now.terms.w frame.now.terms.e frame.now.orders.e
+        curves.old }
     requires spare { IsSpare frame.now.terms.w frame.now.terms.e frame.now.orders.e spare.old }
     ensures count { length curves.new ≡ length curves.old }
-    ensures shape { HaveShape F.ring frame.now.terms.w frame.now.terms.e frame.now.orders.e curves.new }
+    ensures shape { HaveShape F.ring frame.now.terms.w frame.now.terms.e frame.now.orders.e
+        curves.new }
     ensures spare { IsSpare frame.now.terms.w frame.now.terms.e frame.now.orders.e spare.new }
     ensures state { (i handled : ℕ) (points : ℕ → F × F) (b : F) → points i ≡ (a, b)
-        → IsState F.ring frame.now.terms.w frame.now.terms.e (length curves.old) frame.now.orders.e (Handled points frame.now.orders.e i place) a b handled curves.old
-        → IsState F.ring frame.now.terms.w frame.now.terms.e (length curves.old) frame.now.orders.e (Handled points frame.now.orders.e i (suc place)) a b (suc handled) curves.new }
-    ensures products { prods.new ≤ prods.old + step_products frame.now.terms.w frame.now.terms.e frame.now.orders.e (length curves.old) }
+        → IsState F.ring frame.now.terms.w frame.now.terms.e (length curves.old) frame.now.orders.e
+        (Handled points frame.now.orders.e i place) a b handled curves.old
+        → IsState F.ring frame.now.terms.w frame.now.terms.e (length curves.old) frame.now.orders.e
+        (Handled points frame.now.orders.e i (suc place)) a b (suc handled) curves.new }
+    ensures products { prods.new ≤ prods.old
+        + step_products frame.now.terms.w frame.now.terms.e frame.now.orders.e (length curves.old) }
 {
     let pivot = curves[p].take().unwrap();
     let inverse = inverse_at(&pivot, place, prods);
@@ -109,15 +123,22 @@ pub(crate) fn handle_all<F: Field, P: Ledger>(
     a: F,
     prods: &mut Steps<P>,
 )
-    requires shape { HaveShape F.ring frame.now.terms.w frame.now.terms.e frame.now.orders.e curves.old }
+    requires shape { HaveShape F.ring frame.now.terms.w frame.now.terms.e frame.now.orders.e
+        curves.old }
     requires spare { IsSpare frame.now.terms.w frame.now.terms.e frame.now.orders.e spare.old }
     ensures count { length curves.new ≡ length curves.old }
-    ensures shape { HaveShape F.ring frame.now.terms.w frame.now.terms.e frame.now.orders.e curves.new }
+    ensures shape { HaveShape F.ring frame.now.terms.w frame.now.terms.e frame.now.orders.e
+        curves.new }
     ensures spare { IsSpare frame.now.terms.w frame.now.terms.e frame.now.orders.e spare.new }
     ensures state { (i handled : ℕ) (points : ℕ → F × F) (b : F) → points i ≡ (a, b)
-        → IsState F.ring frame.now.terms.w frame.now.terms.e (length curves.old) frame.now.orders.e (Handled points frame.now.orders.e i 0) a b handled curves.old
-        → IsState F.ring frame.now.terms.w frame.now.terms.e (length curves.old) frame.now.orders.e (Handled points frame.now.orders.e i (term_count 1 frame.now.orders.e)) a b (handled + term_count 1 frame.now.orders.e) curves.new }
-    ensures products { prods.new ≤ prods.old + term_count 1 frame.now.orders.e * step_products frame.now.terms.w frame.now.terms.e frame.now.orders.e (length curves.old) }
+        → IsState F.ring frame.now.terms.w frame.now.terms.e (length curves.old) frame.now.orders.e
+        (Handled points frame.now.orders.e i 0) a b handled curves.old
+        → IsState F.ring frame.now.terms.w frame.now.terms.e (length curves.old) frame.now.orders.e
+        (Handled points frame.now.orders.e i (term_count 1 frame.now.orders.e)) a b (handled
+        + term_count 1 frame.now.orders.e) curves.new }
+    ensures products { prods.new ≤ prods.old
+        + term_count 1 frame.now.orders.e * step_products frame.now.terms.w frame.now.terms.e
+        frame.now.orders.e (length curves.old) }
 {
     'orders: for place in 0..frame.orders.terms.len() {
         handle(curves, spare, frame, place, a, prods);

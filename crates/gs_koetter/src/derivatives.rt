@@ -53,7 +53,8 @@ pub(crate) fn lay_out<F: Field>(
     requires size { length table.old.items ≡ monomials.now.e * width }
     requires wide { monomials.now.e ≤ monomials.now.w * width }
     requires narrow { width ≤ 4096 }
-    ensures entries { (i j : ℕ) → i < monomials.now.e → j < width → entry F.ring width table.new.items i j ≡ curve F.ring monomials.now.w coefs.now i j }
+    ensures entries { (i j : ℕ) → i < monomials.now.e → j < width
+        → entry F.ring width table.new.items i j ≡ curve F.ring monomials.now.w coefs.now i j }
     ensures length { length table.new.items ≡ length table.old.items }
 {
     clear(table);
@@ -90,7 +91,8 @@ fn fold<F: Field, P: Ledger>(
     prods: &mut Steps<P>,
 )
     requires { length table.now ≡ length xs.now * length row.old.items }
-    ensures folded { (a : F) → ArePowers F.ring a xs.now → IsFolded F.ring (length row.old.items) (length xs.now) table.now a order row.new.items }
+    ensures folded { (a : F) → ArePowers F.ring a xs.now
+        → IsFolded F.ring (length row.old.items) (length xs.now) table.now a order row.new.items }
     ensures length { length row.new.items ≡ length row.old.items }
     ensures products { prods.new ≤ prods.old + length xs.now * length row.old.items }
 {
@@ -111,7 +113,8 @@ fn term<F: Field, P: Ledger>(
     prods: &mut Steps<P>,
 ) -> F
     requires { exponent < length powers.now }
-    ensures value { (a : F) → ArePowers F.ring a powers.now → result ≡ F.ring.times coef (weight F.ring a exponent order) }
+    ensures value { (a : F) → ArePowers F.ring a powers.now
+        → result ≡ F.ring.times coef (weight F.ring a exponent order) }
     ensures products { prods.new ≤ prods.old + 1 }
 {
     let weight = power_derivative(powers, exponent, order);
@@ -129,7 +132,8 @@ fn derivative<F: Field, P: Ledger>(
     prods: &mut Steps<P>,
 ) -> F
     requires { length coefs.now ≤ length powers.now }
-    ensures value { (a : F) → ArePowers F.ring a powers.now → result ≡ derivative F.ring (length coefs.now) (coefficients F.ring coefs.now) a order }
+    ensures value { (a : F) → ArePowers F.ring a powers.now
+        → result ≡ derivative F.ring (length coefs.now) (coefficients F.ring coefs.now) a order }
     ensures products { prods.new ≤ prods.old + length coefs.now }
 {
     let mut sum = F::zero();
@@ -154,8 +158,10 @@ fn fill_column<F: Field, P: Ledger>(
     requires small { side ≤ 4096 }
     requires tile { length tile.old.items ≡ term_count 1 side }
     requires row { length row.now ≤ length ys.now }
-    ensures column { (b : F) → ArePowers F.ring b ys.now → IsColumn F.ring side u row.now b tile.new.items }
-    ensures others { (h k : ℕ) → h ≢ u → curve F.ring 1 tile.new.items h k ≡ curve F.ring 1 tile.old.items h k }
+    ensures column { (b : F) → ArePowers F.ring b ys.now
+        → IsColumn F.ring side u row.now b tile.new.items }
+    ensures others { (h k : ℕ) → h ≢ u
+        → curve F.ring 1 tile.new.items h k ≡ curve F.ring 1 tile.old.items h k }
     ensures length { length tile.new.items ≡ length tile.old.items }
     ensures products { prods.new ≤ prods.old + (side - u) * length row.now }
 {
@@ -182,10 +188,12 @@ pub(crate) fn fill_tile<F: Field, P: Ledger>(
     requires row { length row.old.items ≡ length ys.now }
     requires table { length table.now ≡ length xs.now * length ys.now }
     ensures tile { (a b : F) → ArePowers F.ring a xs.now → ArePowers F.ring b ys.now
-        → IsTile F.ring (length xs.now) (length ys.now) side (entry F.ring (length ys.now) table.now) a b tile.new.items }
+        → IsTile F.ring (length xs.now) (length ys.now) side
+        (entry F.ring (length ys.now) table.now) a b tile.new.items }
     ensures tile_length { length tile.new.items ≡ length tile.old.items }
     ensures row_length { length row.new.items ≡ length row.old.items }
-    ensures products { prods.new ≤ prods.old + (side * (length xs.now * length ys.now) + term_count 1 side * length ys.now) }
+    ensures products { prods.new ≤ prods.old
+        + (side * (length xs.now * length ys.now) + term_count 1 side * length ys.now) }
 {
     let mut first = 0;
     'orders: for u in 0..side {

@@ -76,7 +76,8 @@ fn zeros<F: Field>(alloc: Global, count: usize) -> Result<Vec<F>, AllocError>
 
 /// Lists of zeros.
 fn zero_curve<F: Field>(alloc: Global, frame: &Frame) -> Result<Curve<F>, AllocError>
-    ensures lists { IfOk result (λ c. IsSpare frame.now.terms.w frame.now.terms.e frame.now.orders.e c) }
+    ensures lists { IfOk result (λ c. IsSpare frame.now.terms.w frame.now.terms.e
+        frame.now.orders.e c) }
     ensures zeros { IfOk result (λ c. (k : ℕ) → coefficients F.ring c.coefs.items k ≡ F.ring.nil) }
     ensures exponent { IfOk result (λ c. c.exponent ≡ 0) }
 {
@@ -99,7 +100,8 @@ fn first_curve<F: Field>(
 ) -> Result<Option<Curve<F>>, AllocError>
     requires light { frame.now.terms.w * j < frame.now.terms.e }
     requires first { first ≡ place frame.now.terms.w 0 j }
-    ensures { IfOk result (λ o. IsBegun F.ring frame.now.terms.w frame.now.terms.e frame.now.orders.e j o) }
+    ensures { IfOk result (λ o. IsBegun F.ring frame.now.terms.w frame.now.terms.e
+        frame.now.orders.e j o) }
 {
     let mut curve = zero_curve(alloc, frame)?;
     curve.coefs[first] = F::one();
@@ -161,9 +163,13 @@ fn kept_curve<F: Field, P: Ledger>(
     points: &[(F, F)],
     prods: &mut Steps<P>,
 ) -> Result<Curve<F>, AllocError>
-    requires { length points.now * term_count 1 frame.now.orders.e < term_count frame.now.terms.w frame.now.terms.e }
-    ensures result { IfOk result (λ c. IsResult F.ring frame.now.terms.w frame.now.terms.e frame.now.width frame.now.orders.e points.now c) }
-    ensures products { prods.new ≤ prods.old + length points.now * point_products frame.now.terms.w frame.now.terms.e frame.now.width frame.now.orders.e }
+    requires { length points.now * term_count 1 frame.now.orders.e
+        < term_count frame.now.terms.w frame.now.terms.e }
+    ensures result { IfOk result (λ c. IsResult F.ring frame.now.terms.w frame.now.terms.e
+        frame.now.width frame.now.orders.e points.now c) }
+    ensures products { prods.new ≤ prods.old
+        + length points.now * point_products frame.now.terms.w frame.now.terms.e frame.now.width
+        frame.now.orders.e }
 {
     let mut curves = first_curves(alloc, frame)?;
     let mut spare = zero_curve(alloc, frame)?;

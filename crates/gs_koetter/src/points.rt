@@ -33,11 +33,13 @@ fn derive<F: Field, P: Ledger>(
     requires curve { IsSpare frame.now.terms.w frame.now.terms.e frame.now.orders.e curve.old }
     requires ended { IsEnded F.ring curve.old }
     requires scratch { IsScratch frame.now.terms.e frame.now.width scratch.old }
-    ensures value { IsDerived F.ring frame.now.terms.w frame.now.terms.e frame.now.width frame.now.orders.e scratch.old.xs.items scratch.old.ys.items curve.old curve.new }
+    ensures value { IsDerived F.ring frame.now.terms.w frame.now.terms.e frame.now.width
+        frame.now.orders.e scratch.old.xs.items scratch.old.ys.items curve.old curve.new }
     ensures scratch { IsScratch frame.now.terms.e frame.now.width scratch.new }
     ensures xs { scratch.new.xs.items ≡ scratch.old.xs.items }
     ensures ys { scratch.new.ys.items ≡ scratch.old.ys.items }
-    ensures products { prods.new ≤ prods.old + derive_products frame.now.terms.e frame.now.width frame.now.orders.e }
+    ensures products { prods.new ≤ prods.old
+        + derive_products frame.now.terms.e frame.now.width frame.now.orders.e }
 {
     lay_out(
         &mut scratch.table,
@@ -63,13 +65,17 @@ fn derive_all<F: Field, P: Ledger>(
     frame: &Frame,
     prods: &mut Steps<P>,
 )
-    requires shape { (j : ℕ) (c : Curve F) → slot curves.old j ≡ Some c → IsSpare frame.now.terms.w frame.now.terms.e frame.now.orders.e c }
+    requires shape { (j : ℕ) (c : Curve F) → slot curves.old j ≡ Some c
+        → IsSpare frame.now.terms.w frame.now.terms.e frame.now.orders.e c }
     requires ended { (j : ℕ) (c : Curve F) → slot curves.old j ≡ Some c → IsEnded F.ring c }
     requires scratch { IsScratch frame.now.terms.e frame.now.width scratch.old }
-    ensures value { (j : ℕ) → AreDerived F.ring frame.now.terms.w frame.now.terms.e frame.now.width frame.now.orders.e scratch.old.xs.items scratch.old.ys.items (slot curves.old j) (slot curves.new j) }
+    ensures value { (j : ℕ) → AreDerived F.ring frame.now.terms.w frame.now.terms.e frame.now.width
+        frame.now.orders.e scratch.old.xs.items scratch.old.ys.items (slot curves.old j)
+        (slot curves.new j) }
     ensures count { length curves.new ≡ length curves.old }
     ensures scratch { IsScratch frame.now.terms.e frame.now.width scratch.new }
-    ensures products { prods.new ≤ prods.old + length curves.old * derive_products frame.now.terms.e frame.now.width frame.now.orders.e }
+    ensures products { prods.new ≤ prods.old
+        + length curves.old * derive_products frame.now.terms.e frame.now.width frame.now.orders.e }
 {
     'curves: for slot in curves.iter_mut() {
         if let Some(curve) = slot {
@@ -87,18 +93,24 @@ fn handle_point<F: Field, P: Ledger>(
     point: (F, F),
     prods: &mut Steps<P>,
 )
-    requires shape { HaveShape F.ring frame.now.terms.w frame.now.terms.e frame.now.orders.e curves.old }
+    requires shape { HaveShape F.ring frame.now.terms.w frame.now.terms.e frame.now.orders.e
+        curves.old }
     requires count { length curves.old ≡ frame.now.width }
     requires spare { IsSpare frame.now.terms.w frame.now.terms.e frame.now.orders.e spare.old }
     requires scratch { IsScratch frame.now.terms.e frame.now.width scratch.old }
-    ensures shape { HaveShape F.ring frame.now.terms.w frame.now.terms.e frame.now.orders.e curves.new }
+    ensures shape { HaveShape F.ring frame.now.terms.w frame.now.terms.e frame.now.orders.e
+        curves.new }
     ensures count { length curves.new ≡ length curves.old }
     ensures spare { IsSpare frame.now.terms.w frame.now.terms.e frame.now.orders.e spare.new }
     ensures scratch { IsScratch frame.now.terms.e frame.now.width scratch.new }
     ensures state { (i handled : ℕ) (points : ℕ → F × F) → points i ≡ point
-        → IsBare F.ring frame.now.terms.w frame.now.terms.e frame.now.width (Handled points frame.now.orders.e i 0) handled curves.old
-        → IsBare F.ring frame.now.terms.w frame.now.terms.e frame.now.width (Handled points frame.now.orders.e (i + 1) 0) (handled + term_count 1 frame.now.orders.e) curves.new }
-    ensures products { prods.new ≤ prods.old + point_products frame.now.terms.w frame.now.terms.e frame.now.width frame.now.orders.e }
+        → IsBare F.ring frame.now.terms.w frame.now.terms.e frame.now.width
+        (Handled points frame.now.orders.e i 0) handled curves.old
+        → IsBare F.ring frame.now.terms.w frame.now.terms.e frame.now.width
+        (Handled points frame.now.orders.e (i + 1) 0) (handled
+        + term_count 1 frame.now.orders.e) curves.new }
+    ensures products { prods.new ≤ prods.old
+        + point_products frame.now.terms.w frame.now.terms.e frame.now.width frame.now.orders.e }
 {
     fill_powers(&mut scratch.xs, point.0, prods);
     fill_powers(&mut scratch.ys, point.1, prods);
@@ -115,15 +127,22 @@ pub(crate) fn handle_points<F: Field, P: Ledger>(
     points: &[(F, F)],
     prods: &mut Steps<P>,
 )
-    requires shape { HaveShape F.ring frame.now.terms.w frame.now.terms.e frame.now.orders.e curves.old }
+    requires shape { HaveShape F.ring frame.now.terms.w frame.now.terms.e frame.now.orders.e
+        curves.old }
     requires count { length curves.old ≡ frame.now.width }
     requires spare { IsSpare frame.now.terms.w frame.now.terms.e frame.now.orders.e spare.old }
     requires scratch { IsScratch frame.now.terms.e frame.now.width scratch.old }
-    requires state { IsBare F.ring frame.now.terms.w frame.now.terms.e frame.now.width (Handled (point_at F.ring points.now) frame.now.orders.e 0 0) 0 curves.old }
-    ensures shape { HaveShape F.ring frame.now.terms.w frame.now.terms.e frame.now.orders.e curves.new }
+    requires state { IsBare F.ring frame.now.terms.w frame.now.terms.e frame.now.width
+        (Handled (point_at F.ring points.now) frame.now.orders.e 0 0) 0 curves.old }
+    ensures shape { HaveShape F.ring frame.now.terms.w frame.now.terms.e frame.now.orders.e
+        curves.new }
     ensures count { length curves.new ≡ length curves.old }
-    ensures state { IsBare F.ring frame.now.terms.w frame.now.terms.e frame.now.width (Handled (point_at F.ring points.now) frame.now.orders.e (length points.now) 0) (length points.now * term_count 1 frame.now.orders.e) curves.new }
-    ensures products { prods.new ≤ prods.old + length points.now * point_products frame.now.terms.w frame.now.terms.e frame.now.width frame.now.orders.e }
+    ensures state { IsBare F.ring frame.now.terms.w frame.now.terms.e frame.now.width
+        (Handled (point_at F.ring points.now) frame.now.orders.e (length points.now) 0)
+        (length points.now * term_count 1 frame.now.orders.e) curves.new }
+    ensures products { prods.new ≤ prods.old
+        + length points.now * point_products frame.now.terms.w frame.now.terms.e frame.now.width
+        frame.now.orders.e }
 {
     'points: for i in 0..points.len() {
         handle_point(curves, spare, scratch, frame, points[i], prods);

@@ -26,7 +26,9 @@ fn entry<F: Field>(source: &[F], place: usize) -> F
 fn shift<F: Field>(target: &mut Vec<F>, source: &[F], quotients: &[usize])
     requires { length target.old.items ≡ length quotients.now }
     ensures length { length target.new.items ≡ length target.old.items }
-    ensures each { (k : ℕ) → k < length quotients.now → coefficients F.ring target.new.items k ≡ coefficients F.ring source.now (slice_index_or quotients.now k 0) }
+    ensures each { (k : ℕ) → k < length quotients.now
+        → coefficients F.ring target.new.items k
+        ≡ coefficients F.ring source.now (slice_index_or quotients.now k 0) }
 {
     'places: for k in 0..target.len() {
         target[k] = entry(source, quotients[k]);
@@ -63,11 +65,14 @@ pub(crate) fn raise<F: Field, P: Ledger>(
     a: F,
     prods: &mut Steps<P>,
 )
-    requires shape { HasShape F.ring frame.now.terms.w frame.now.terms.e frame.now.orders.e j curve.old }
+    requires shape { HasShape F.ring frame.now.terms.w frame.now.terms.e frame.now.orders.e j
+        curve.old }
     requires spare { IsSpare frame.now.terms.w frame.now.terms.e frame.now.orders.e spare.old }
     requires light { curve.old.exponent + 1 + frame.now.terms.w * j < frame.now.terms.e }
-    ensures product { IsProduct F.ring frame.now.terms.quotients.items frame.now.orders.quotients.items a curve.old curve.new }
-    ensures shape { HasShape F.ring frame.now.terms.w frame.now.terms.e frame.now.orders.e j curve.new }
+    ensures product { IsProduct F.ring frame.now.terms.quotients.items
+        frame.now.orders.quotients.items a curve.old curve.new }
+    ensures shape { HasShape F.ring frame.now.terms.w frame.now.terms.e frame.now.orders.e j
+        curve.new }
     ensures spare { IsSpare frame.now.terms.w frame.now.terms.e frame.now.orders.e spare.new }
     ensures products { prods.new ≤ prods.old + term_count frame.now.terms.w frame.now.terms.e }
 {

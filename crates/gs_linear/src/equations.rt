@@ -23,7 +23,8 @@ pub(crate) fn equations<F: Field, P: Ledger>(
     requires y { (k : ℕ) → k < length terms.now → (exponents_at terms.now k).y < e }
     ensures rows { IfOk result (λ rows.
         HaveEquations F.ring terms.now orders.now points.now (length points.now) (map (λ row. row.items) rows.items)) }
-    ensures products { prods.new ≤ prods.old + length points.now * (2 * e + length orders.now * length terms.now) }
+    ensures products { prods.new ≤ prods.old
+        + length points.now * (2 * e + length orders.now * length terms.now) }
 {
     let mut rows = Vec::new(alloc);
     'points: for (_index, point) in points.iter().enumerate() {
@@ -71,7 +72,8 @@ fn equation<F: Field, P: Ledger>(
 ) -> Result<Vec<F>, AllocError>
     requires x { (k : ℕ) → k < length terms.now → (exponents_at terms.now k).x < length xs.now }
     requires y { (k : ℕ) → k < length terms.now → (exponents_at terms.now k).y < length ys.now }
-    ensures row { IfOk result (λ row. (a b : F) → ArePowers F.ring a xs.now → ArePowers F.ring b ys.now
+    ensures row { IfOk result (λ row. (a b : F) → ArePowers F.ring a xs.now
+        → ArePowers F.ring b ys.now
         → IsEquation F.ring terms.now a b order row.items) }
     ensures products { prods.new ≤ prods.old + length terms.now }
 {

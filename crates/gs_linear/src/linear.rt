@@ -51,8 +51,10 @@ fn solution<F: Field, P: Ledger>(
     requires points { length points.now ≡ params.now.r }
     requires terms { AreTermsBelow params.now.w params.now.e terms.now }
     requires orders { AreTermsBelow 1 params.now.s orders.now }
-    ensures solution { IfOk result (λ vector. IsSolution F.ring terms.now orders.now points.now vector) }
-    ensures products { prods.new ≤ prods.old + 16 * (params.now.rows * params.now.rows) * params.now.cols }
+    ensures solution { IfOk result
+        (λ vector. IsSolution F.ring terms.now orders.now points.now vector) }
+    ensures products { prods.new ≤ prods.old
+        + 16 * (params.now.rows * params.now.rows) * params.now.cols }
 {
     let rows = equations(alloc, terms, orders, params.e as usize, points, prods)?;
     let matrix = Matrix::from_rows(terms.len(), rows);

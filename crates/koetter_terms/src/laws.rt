@@ -13,17 +13,21 @@ pub fn laws_of_steps<F>()
         derivative_at ring m n (plus_multiple ring q x p) a b u v
         ≡ ring.plus (derivative_at ring m n q a b u v) (ring.times x (derivative_at ring m n p a b u v)) }
     ensures first { (ring : Ring F) (m n : ℕ) (c : F) (q : ℕ → ℕ → F)
-        → ((j : ℕ) → IsBelow ring m (λ i. q i j)) → ((j : ℕ) → IsBelow ring m (λ i. times_linear ring c q i j)) → (a b : F) (v : ℕ) →
+        → ((j : ℕ) → IsBelow ring m (λ i. q i j))
+        → ((j : ℕ) → IsBelow ring m (λ i. times_linear ring c q i j)) → (a b : F) (v : ℕ) →
         derivative_at ring m n (times_linear ring c q) a b 0 v
         ≡ ring.times (ring.plus c a) (derivative_at ring m n q a b 0 v) }
     ensures next { (ring : Ring F) (m n : ℕ) (c : F) (q : ℕ → ℕ → F)
-        → ((j : ℕ) → IsBelow ring m (λ i. q i j)) → ((j : ℕ) → IsBelow ring m (λ i. times_linear ring c q i j)) → (a b : F) (u v : ℕ) →
+        → ((j : ℕ) → IsBelow ring m (λ i. q i j))
+        → ((j : ℕ) → IsBelow ring m (λ i. times_linear ring c q i j)) → (a b : F) (u v : ℕ) →
         derivative_at ring m n (times_linear ring c q) a b (suc u) v
         ≡ ring.plus (derivative_at ring m n q a b u v) (ring.times (ring.plus c a) (derivative_at ring m n q a b (suc u) v)) }
 {}
 
 /// The order of the terms: different terms have different places, and x keeps the order.
 pub fn laws_of_order()
-    ensures different { (w : ℕ) → 1 ≤ w → (i j a b : ℕ) → place w i j ≡ place w a b → (i ≡ a) × (j ≡ b) }
-    ensures kept { (w : ℕ) → 1 ≤ w → (i j a b : ℕ) → place w a b ≤ place w i j → place w (suc a) b ≤ place w (suc i) j }
+    ensures different { (w : ℕ) → 1 ≤ w → (i j a b : ℕ) → place w i j ≡ place w a b
+        → (i ≡ a) × (j ≡ b) }
+    ensures kept { (w : ℕ) → 1 ≤ w → (i j a b : ℕ) → place w a b ≤ place w i j
+        → place w (suc a) b ≤ place w (suc i) j }
 {}

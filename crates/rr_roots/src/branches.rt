@@ -35,7 +35,6 @@ pub fn reduction<F: Field>(q: &BiPoly<F>) -> Result<BiPoly<F>, Memory>
     requires { q.now ≢ empty }
     ensures { IfOk result (λ curve. IsReduction F.ring q.now curve) }
 {
-    q.tell();
     let mut curve = q.copy()?;
     curve.strip_x();
     Ok(curve)

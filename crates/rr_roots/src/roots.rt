@@ -58,7 +58,6 @@ fn all_lists<F: Field, P: Ledger>(
         → let y = greatest y_power q.now + 1 in
         prods.new ≤ prods.old + k * (y * y * (256 + e * y)) }
 {
-    q.tell();
     let column = q.at_zero()?;
     if column.degree().is_some() {
         return root_lists(alloc, q, k, prods);

@@ -30,7 +30,8 @@ pub fn powers<F: Field, P: Ledger>(
 /// The derivative of this order of x^exponent at the element whose powers these are.
 pub fn power_derivative<F: Field>(powers: &[F], exponent: usize, order: usize) -> F
     requires { exponent < length powers.now }
-    ensures { (element : F) → ArePowers F.ring element powers.now → result ≡ weight F.ring element exponent order }
+    ensures { (element : F) → ArePowers F.ring element powers.now
+        → result ≡ weight F.ring element exponent order }
 {
     if exponent & order == order {
         powers[exponent - order]

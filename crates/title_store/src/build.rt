@@ -57,7 +57,8 @@ impl TitleBuilder {
         requires place { place < places self.old.design }
         requires symbol { symbol < symbols self.old.design }
         ensures answer { AddsAs result self.old place symbol digest.now.bytes }
-        ensures added { OnOk result (self.new ≡ with_digest self.old place symbol digest.now.bytes) }
+        ensures added { OnOk result (self.new
+            ≡ with_digest self.old place symbol digest.now.bytes) }
         ensures refused { OnErr result (self.new ≡ self.old) }
     {
         let symbols = self.design.symbols();

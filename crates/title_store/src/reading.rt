@@ -178,7 +178,8 @@ fn bound_row(lines: &mut Lines, dimension: u32) -> Result<u32, TitleFault>
     requires room { lines.old.number + 1 < 2 ^ 32 }
     requires low { 2 ≤ dimension }
     requires high { dimension ≤ 13 }
-    ensures found { Finds (λ bound. bound) result lines.old lines.new (number_line (codes "c ") (λ c. is_bound c && is_light dimension c)) }
+    ensures found { Finds (λ bound. bound) result lines.old lines.new
+        (number_line (codes "c ") (λ c. is_bound c && is_light dimension c)) }
     ensures high { IfOk result (λ bound. bound ≤ 8) }
     ensures counted { OnOk result (lines.new.number ≡ lines.old.number + 1) }
 {
@@ -230,7 +231,8 @@ fn read_segments(
     requires none { list.segments ≡ [] }
     requires few { count ≤ 100000 }
     requires start { lines.old.number ≡ 11 }
-    ensures rows { Reads (λ grown. grown.segments) result lines.old lines.new (rows_after [] count segment_form) }
+    ensures rows { Reads (λ grown. grown.segments) result lines.old lines.new
+        (rows_after [] count segment_form) }
     ensures others { IfOk result (λ grown. grown ≡ record list { segments = grown.segments }) }
     ensures number { IfOk result (λ grown. length grown.segments ≡ count) }
     ensures counted { OnOk result (lines.new.number ≡ 11 + count) }
@@ -262,7 +264,8 @@ pub(crate) fn read_marks(
     requires high { head.now.dimension ≤ 13 }
     requires bound { head.now.bound ≤ 8 }
     requires start { lines.old.number ≤ 100011 }
-    ensures found { Reads (λ marks. marks.items) result lines.old lines.new (marked_form (head_view head.now) segments) }
+    ensures found { Reads (λ marks. marks.items) result lines.old lines.new
+        (marked_form (head_view head.now) segments) }
     ensures few { IfOk result (λ marks. vec_len marks ≤ 256) }
     ensures counted { IfOk result (λ marks. lines.new.number ≤ 100268) }
 {
@@ -288,7 +291,8 @@ fn read_numbers(
 ) -> Result<Vec<u32>, TitleReadError>
     requires few { count ≤ 256 }
     requires start { lines.old.number ≤ 100012 }
-    ensures rows { Reads (λ marks. marks.items) result lines.old lines.new (rows_after [] count (mark_form segments)) }
+    ensures rows { Reads (λ marks. marks.items) result lines.old lines.new
+        (rows_after [] count (mark_form segments)) }
     ensures number { IfOk result (λ marks. vec_len marks ≡ count) }
     ensures counted { OnOk result (lines.new.number ≡ lines.old.number + count) }
 {
@@ -314,7 +318,8 @@ pub(crate) fn read_digests(
 ) -> Result<Table, TitleReadError>
     requires few { count ≤ 65536 }
     requires start { lines.old.number ≤ 100268 }
-    ensures rows { Reads (λ table. filled table) result lines.old lines.new (rows_after [] count digest_form) }
+    ensures rows { Reads (λ table. filled table) result lines.old lines.new
+        (rows_after [] count digest_form) }
     ensures full { IfOk result (λ table. list_all is_some table ≡ true) }
     ensures counted { OnOk result (lines.new.number ≤ 165804) }
 {

@@ -29,7 +29,8 @@ pub(crate) const ROW: RowKinds<TitleKind> = RowKinds {
 #[tactic(auto, unfolding(form_terms::specs::Forms::row, form_terms::specs::Forms::followed, form_terms::specs::Forms::said))]
 pub(crate) fn exact_row(lines: &mut Lines, wanted: &[u8]) -> Result<(), TitleFault>
     requires room { lines.old.number + 1 < 2 ^ 32 }
-    ensures found { Finds (λ done. done) result lines.old lines.new (row kinds_of_rows (exactly wanted.now)) }
+    ensures found { Finds (λ done. done) result lines.old lines.new
+        (row kinds_of_rows (exactly wanted.now)) }
     ensures counted { OnOk result (lines.new.number ≡ lines.old.number + 1) }
 {
     let text = lines.next_line(TitleKind::Form, TitleKind::Form)?;
@@ -43,7 +44,8 @@ pub(crate) fn exact_row(lines: &mut Lines, wanted: &[u8]) -> Result<(), TitleFau
 #[tactic(auto, unfolding(form_terms::specs::Forms::row, form_terms::specs::Forms::followed, form_terms::specs::Forms::said))]
 pub(crate) fn text_row<'a>(lines: &mut Lines<'a>, word: &[u8]) -> Result<&'a str, TitleFault>
     requires room { lines.old.number + 1 < 2 ^ 32 }
-    ensures found { Finds (λ text. text.now) result lines.old lines.new (row kinds_of_rows (text_after word.now)) }
+    ensures found { Finds (λ text. text.now) result lines.old lines.new
+        (row kinds_of_rows (text_after word.now)) }
     ensures counted { OnOk result (lines.new.number ≡ lines.old.number + 1) }
 {
     let text = lines.next_line(TitleKind::Form, TitleKind::Form)?;
@@ -57,7 +59,8 @@ pub(crate) fn text_row<'a>(lines: &mut Lines<'a>, word: &[u8]) -> Result<&'a str
 #[tactic(auto, unfolding(title_terms::specs::TitleText::segment_form, form_terms::specs::Forms::row, form_terms::specs::Forms::followed, form_terms::specs::Forms::said, form_terms::specs::Forms::require, form_terms::specs::Forms::give))]
 pub(crate) fn segment_row(alloc: Global, lines: &mut Lines) -> Result<Segment, TitleReadError>
     requires room { lines.old.number + 1 < 2 ^ 32 }
-    ensures found { (past : List PlaylistSegment) → Reads (λ segment. segment) result lines.old lines.new (segment_form past) }
+    ensures found { (past : List PlaylistSegment)
+        → Reads (λ segment. segment) result lines.old lines.new (segment_form past) }
     ensures counted { OnOk result (lines.new.number ≡ lines.old.number + 1) }
 {
     let text = lines.next_line(TitleKind::Form, TitleKind::Form)?;
@@ -79,7 +82,8 @@ pub(crate) fn segment_row(alloc: Global, lines: &mut Lines) -> Result<Segment, T
 #[tactic(auto, unfolding(title_terms::specs::TitleText::mark_form, form_terms::specs::Forms::row, form_terms::specs::Forms::followed, form_terms::specs::Forms::said, form_terms::specs::Forms::require, form_terms::specs::Forms::give))]
 pub(crate) fn mark_row(lines: &mut Lines, past: &[u32], segments: u32) -> Result<u32, TitleFault>
     requires room { lines.old.number + 1 < 2 ^ 32 }
-    ensures found { Finds (λ segment. segment) result lines.old lines.new (mark_form segments past.now) }
+    ensures found { Finds (λ segment. segment) result lines.old lines.new
+        (mark_form segments past.now) }
     ensures counted { OnOk result (lines.new.number ≡ lines.old.number + 1) }
 {
     let text = lines.next_line(TitleKind::Form, TitleKind::Form)?;
@@ -99,7 +103,8 @@ pub(crate) fn mark_row(lines: &mut Lines, past: &[u32], segments: u32) -> Result
 #[tactic(auto, unfolding(form_terms::specs::Forms::row, form_terms::specs::Forms::followed, form_terms::specs::Forms::said))]
 pub(crate) fn digest_row(lines: &mut Lines) -> Result<[u8; 32], TitleFault>
     requires room { lines.old.number + 1 < 2 ^ 32 }
-    ensures found { Finds (λ digest. digest) result lines.old lines.new (row kinds_of_rows digest_said) }
+    ensures found { Finds (λ digest. digest) result lines.old lines.new
+        (row kinds_of_rows digest_said) }
     ensures counted { OnOk result (lines.new.number ≡ lines.old.number + 1) }
 {
     let text = lines.next_line(TitleKind::Form, TitleKind::Form)?;

@@ -78,7 +78,8 @@ impl Table {
 
     /// The cell that holds the digest.
     pub(crate) fn find(&self, digest: &[u8; 32]) -> Option<u32>
-        ensures { MatchOption result (IsAbsent self.now digest.now) (λ cell. HoldsDigest self.now cell digest.now) }
+        ensures { MatchOption result (IsAbsent self.now digest.now)
+            (λ cell. HoldsDigest self.now cell digest.now) }
     {
         self.index.get(digest).copied()
     }

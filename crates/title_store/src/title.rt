@@ -157,8 +157,11 @@ impl Title {
     /// The variant with this digest. There is at most one.
     pub fn find(&self, digest: &Digest) -> Option<(u32, u8)>
         // No variant has the digest, or this one has it.
-        ensures found { MatchOption result ((place symbol : ℕ) → digest_at self.now place symbol ≡ Some digest.now.bytes → ⊥) (λ variant. digest_at self.now variant.0 variant.1 ≡ Some digest.now.bytes) }
-        ensures inside { IfSome result (λ variant. (variant.0 < places self.now.design) × (variant.1 < symbols self.now.design)) }
+        ensures found { MatchOption result ((place symbol : ℕ)
+            → digest_at self.now place symbol ≡ Some digest.now.bytes
+            → ⊥) (λ variant. digest_at self.now variant.0 variant.1 ≡ Some digest.now.bytes) }
+        ensures inside { IfSome result (λ variant. (variant.0 < places self.now.design)
+            × (variant.1 < symbols self.now.design)) }
     {
         match self.table.find(&digest.bytes) {
             Some(cell) => {
@@ -189,7 +192,8 @@ fn place_in(marks: &[u32], segment: u32) -> Option<usize>
 
 /// The cell of a variant; `None` where there is no such symbol.
 fn cell_in(design: &Design, place: u32, symbol: u8) -> Option<usize>
-    ensures { result ≡ (if nat_lt symbol (symbols design.now) then Some (cell_of design.now place symbol) else None) }
+    ensures { result ≡ (if nat_lt symbol (symbols design.now) then Some
+        (cell_of design.now place symbol) else None) }
 {
     let symbols = design.symbols() as usize;
     if symbol as usize >= symbols {

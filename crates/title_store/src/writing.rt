@@ -34,7 +34,8 @@ impl Title {
 
 /// Writes the lines of the design in front of its marks.
 fn put_design(alloc: Global, out: &mut Vec<u8>, design: &Design) -> Result<(), Memory>
-    ensures { OnOk result (out.new.items ≡ out.old.items ++ flat_map line (design_lines design.now)) }
+    ensures { OnOk result (out.new.items
+        ≡ out.old.items ++ flat_map line (design_lines design.now)) }
 {
     put_line(out, b"title 1")?;
     put_text_line(out, b"name ", design.name().as_str())?;
@@ -47,7 +48,10 @@ fn put_design(alloc: Global, out: &mut Vec<u8>, design: &Design) -> Result<(), M
 /// Writes the lines of the code's three numbers.
 #[tactic(auto, using(std::proofs::Common::append_assoc))]
 fn put_code(alloc: Global, out: &mut Vec<u8>, design: &Design) -> Result<(), Memory>
-    ensures { OnOk result (out.new.items ≡ out.old.items ++ (line (number_text (codes "m ") design.now.bits) ++ (line (number_text (codes "k ") design.now.dimension) ++ line (number_text (codes "c ") design.now.bound)))) }
+    ensures { OnOk result (out.new.items
+        ≡ out.old.items ++ (line (number_text (codes "m ") design.now.bits)
+        ++ (line (number_text (codes "k ") design.now.dimension)
+        ++ line (number_text (codes "c ") design.now.bound)))) }
 {
     put_number_line(alloc, out, b"m ", u128::from(design.bits()))?;
     put_number_line(alloc, out, b"k ", u128::from(design.dimension()))?;
@@ -68,7 +72,8 @@ fn put_list(alloc: Global, out: &mut Vec<u8>, list: &MediaList) -> Result<(), Me
 
 /// Writes a line for each segment.
 fn put_segments(alloc: Global, out: &mut Vec<u8>, segments: &[Segment]) -> Result<(), Memory>
-    ensures { OnOk result (out.new.items ≡ out.old.items ++ flat_map line (map segment_text segments.now)) }
+    ensures { OnOk result (out.new.items
+        ≡ out.old.items ++ flat_map line (map segment_text segments.now)) }
 {
     'segments: for segment in segments {
         put_segment(alloc, out, segment)?;
@@ -98,7 +103,8 @@ fn cut_digit(cut: bool) -> &'static [u8]
 
 /// Writes how many segments are marked, and the number of each.
 fn put_marks(alloc: Global, out: &mut Vec<u8>, marks: &[u32]) -> Result<(), Memory>
-    ensures { OnOk result (out.new.items ≡ out.old.items ++ flat_map line (marked_lines marks.now)) }
+    ensures { OnOk result (out.new.items
+        ≡ out.old.items ++ flat_map line (marked_lines marks.now)) }
 {
     put_number_line(alloc, out, b"marked ", marks.len() as u128)?;
     put_numbers(alloc, out, marks)
@@ -106,7 +112,8 @@ fn put_marks(alloc: Global, out: &mut Vec<u8>, marks: &[u32]) -> Result<(), Memo
 
 /// Writes each number on a line of its own.
 fn put_numbers(alloc: Global, out: &mut Vec<u8>, numbers: &[u32]) -> Result<(), Memory>
-    ensures { OnOk result (out.new.items ≡ out.old.items ++ flat_map line (map decimal numbers.now)) }
+    ensures { OnOk result (out.new.items
+        ≡ out.old.items ++ flat_map line (map decimal numbers.now)) }
 {
     'numbers: for number in numbers {
         put_number_line(alloc, out, b"", u128::from(*number))?;
@@ -117,7 +124,8 @@ fn put_numbers(alloc: Global, out: &mut Vec<u8>, numbers: &[u32]) -> Result<(), 
 /// Writes the digest of each cell.
 fn put_digests(out: &mut Vec<u8>, table: &Table) -> Result<(), Memory>
     requires { list_all is_some table.now ≡ true }
-    ensures { OnOk result (out.new.items ≡ out.old.items ++ flat_map line (map encode_lower (filled table.now))) }
+    ensures { OnOk result (out.new.items
+        ≡ out.old.items ++ flat_map line (map encode_lower (filled table.now))) }
 {
     for cell in 0..table.len() {
         let digest = table.at(cell).unwrap();

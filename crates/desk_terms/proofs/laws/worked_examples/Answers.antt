@@ -15,9 +15,9 @@ pub returns-clause-too_few : goal.returns-clause-too_few
 unfolding findings report_text accused_text agreement_of places_of symbol_of power product reduction reduced carryless digits
 returns-clause-too_few c = refl
 
-pub returns-clause-needed : goal.returns-clause-needed
+pub returns-clause-nine_not_enough : goal.returns-clause-nine_not_enough
 unfolding findings report_text accused_text agreement_of places_of symbol_of power product reduction reduced carryless digits
-returns-clause-needed c = refl
+returns-clause-nine_not_enough c = refl
 
 pub returns-clause-nobody : goal.returns-clause-nobody
 unfolding findings report_text accused_text agreement_of places_of symbol_of power product reduction reduced carryless digits

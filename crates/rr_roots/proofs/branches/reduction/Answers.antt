@@ -1,5 +1,5 @@
 use Rattle.std.proofs.Common.{◌≡◌, subst}
-use Rattle.algebra.specs.Bivariate.{Bivariate}
+use Rattle.algebra.specs.Bivariate.{Bivariate, IsProper}
 use Rattle.bi_poly.specs.Results.{IsPowerOfX, IsStripped}
 use Rattle.rr_roots.proofs.Branching.{proper_nonzero, reduction_of}
 use Rattle.rr_roots.proofs.branches.reduction.Goals as goal
@@ -11,4 +11,4 @@ returns g c =
     reduction_of R c.args.q.now c.strip_x.new.self c.strip_x.result
     (subst (λ (t : Bivariate g.row.F.Denot). IsPowerOfX c.strip_x.result t) same c.strip_x.ensures.power)
     (subst (λ (t : Bivariate g.row.F.Denot). IsStripped c.strip_x.result t c.strip_x.new.self) same c.strip_x.ensures.divided)
-    (proper_nonzero R c.args.q.now c.tell.ensures.proper)
+    (proper_nonzero R c.args.q.now (subst (λ (t : Bivariate g.row.F.Denot). IsProper R t) same c.strip_x.ensures.proper))

@@ -7,7 +7,7 @@ use Rattle.rr_roots.proofs.roots.all_lists.Goals as goal
 
 pub root_lists-requires-clause-room : goal.root_lists-requires-clause-room
 root_lists-requires-clause-room g c =
-    room (greatest x_power c.args.q.now) (greatest y_power c.args.q.now) c.args.k c.requires.x (degree_low c.args.q.now c.requires.nonzero c.tell.ensures.limits) c.requires.most_k
+    room (greatest x_power c.args.q.now) (greatest y_power c.args.q.now) c.args.k c.requires.x (degree_low c.args.q.now c.requires.nonzero c.in_ok-column.ensures.limits) c.requires.most_k
 
 pub returns-then-is_some-clause-few : goal.returns-then-is_some-clause-few
 returns-then-is_some-clause-few g c =
@@ -20,7 +20,7 @@ returns-then-is_some-clause-products g c e l =
 pub root_lists-requires-2-clause-room : goal.root_lists-requires-2-clause-room
 root_lists-requires-2-clause-room g c =
     let is : IsReduction g.F.Field.ring c.args.q.now c.in_ok-curve.curve = c.in_ok-curve.ensures in
-    let low : greatest y_power c.args.q.now ≤ 4095 = degree_low c.args.q.now c.requires.nonzero c.tell.ensures.limits in
+    let low : greatest y_power c.args.q.now ≤ 4095 = degree_low c.args.q.now c.requires.nonzero c.in_ok-column.ensures.limits in
     room (greatest x_power c.in_ok-curve.curve) (greatest y_power c.in_ok-curve.curve) c.args.k (omega (arith, is.x, c.requires.x)) (omega (arith, is.y)) c.requires.most_k
 
 pub returns-clause-these : goal.returns-clause-these

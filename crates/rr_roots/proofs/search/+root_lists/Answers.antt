@@ -13,7 +13,7 @@ use Rattle.rr_roots.proofs.search.+root_lists.Goals as goal
 pub returns-in_err-constants-clause-products : goal.returns-in_err-constants-clause-products
 returns-in_err-constants-clause-products g t c d y e narrow l m =
     let met = g.met.F.Field in
-    early_products g.row.F.Denot g.F.Field.ring c.args.q.now c.in_ok-column.column c.in_ok-column.ensures g.F.Field.Q c.args.prods.now c.roots.new.prods c.args.count d y e (omega arith)
+    early_products g.row.F.Denot g.F.Field.ring c.args.q.now c.in_ok-column.column c.in_ok-column.ensures.value g.F.Field.Q c.args.prods.now c.roots.new.prods c.args.count d y e (omega arith)
     (few_elements g.F.Field.Q g.F.Field.BITS met.size met.most_bits) narrow c.roots.ensures.products
 
 pub constants-init : goal.constants-init
@@ -36,7 +36,7 @@ branch-q-requires-clause-root g t c =
     let q : Bivariate g.row.F.Denot = c.args.q.now in
     let list : List g.row.F.Denot = c.in_ok-column.column in
     let items : List g.row.F.Denot = c.constants-2.inside.items.items in
-    let node : IsNode R q number list items = node_of R q number list items c.in_ok-constants.constants c.in_ok-column.ensures c.constants-2.view_is c.in_ok-constants.ensures.value c.in_ok-constants.ensures.few c.requires.reduced in
+    let node : IsNode R q number list items = node_of R q number list items c.in_ok-constants.constants c.in_ok-column.ensures.value c.constants-2.view_is c.in_ok-constants.ensures.value c.in_ok-constants.ensures.few c.requires.reduced in
     let inside : c.constants.n < length items = omega (arith, ap length c.constants-2.view_is, c.len-n-end.ensures, c.constants-test.true) in
     let same : c.index-as_slice-n.result ≡ coefficients R items c.constants.n =
     constant_is R q items c.in_ok-constants.constants c.as_slice.result.now c.constants.n c.index-as_slice-n.result c.constants-2.view_is c.as_slice.ensures inside c.index-as_slice-n.is in
@@ -50,7 +50,7 @@ returns-in_err-child-clause-products g t c d y e narrow l m =
     let q : Bivariate g.row.F.Denot = c.args.q.now in
     let list : List g.row.F.Denot = c.in_ok-column.column in
     let items : List g.row.F.Denot = c.constants-2.inside.items.items in
-    let node : IsNode R q number list items = node_of R q number list items c.in_ok-constants.constants c.in_ok-column.ensures c.constants-2.view_is c.in_ok-constants.ensures.value c.in_ok-constants.ensures.few c.requires.reduced in
+    let node : IsNode R q number list items = node_of R q number list items c.in_ok-constants.constants c.in_ok-column.ensures.value c.constants-2.view_is c.in_ok-constants.ensures.value c.in_ok-constants.ensures.few c.requires.reduced in
     let small : g.F.Field.Q ≤ 256 = few_elements g.F.Field.Q g.F.Field.BITS met.size met.most_bits in
     let inside : c.constants.n < length items = omega (arith, ap length c.constants-2.view_is, c.len-n-end.ensures, c.constants-test.true) in
     let spent : IsSpent R q items (c.constants.n + 1) (c.args.count - 1) (length c.constants.found.items + 0) (e * (y * y)) c.roots.new.prods c.branch-q.new.prods =
@@ -74,7 +74,7 @@ returns-in_err-tails-clause-products g t c d y e narrow l m =
     let q : Bivariate g.row.F.Denot = c.args.q.now in
     let list : List g.row.F.Denot = c.in_ok-column.column in
     let items : List g.row.F.Denot = c.constants-2.inside.items.items in
-    let node : IsNode R q number list items = node_of R q number list items c.in_ok-constants.constants c.in_ok-column.ensures c.constants-2.view_is c.in_ok-constants.ensures.value c.in_ok-constants.ensures.few c.requires.reduced in
+    let node : IsNode R q number list items = node_of R q number list items c.in_ok-constants.constants c.in_ok-column.ensures.value c.constants-2.view_is c.in_ok-constants.ensures.value c.in_ok-constants.ensures.few c.requires.reduced in
     let small : g.F.Field.Q ≤ 256 = few_elements g.F.Field.Q g.F.Field.BITS met.size met.most_bits in
     let inside : c.constants.n < length items = omega (arith, ap length c.constants-2.view_is, c.len-n-end.ensures, c.constants-test.true) in
     let same : c.index-as_slice-n.result ≡ coefficients R items c.constants.n =
@@ -94,7 +94,7 @@ returns-in_err-add_each-clause-products g t c d y e narrow l m =
     let q : Bivariate g.row.F.Denot = c.args.q.now in
     let list : List g.row.F.Denot = c.in_ok-column.column in
     let items : List g.row.F.Denot = c.constants-2.inside.items.items in
-    let node : IsNode R q number list items = node_of R q number list items c.in_ok-constants.constants c.in_ok-column.ensures c.constants-2.view_is c.in_ok-constants.ensures.value c.in_ok-constants.ensures.few c.requires.reduced in
+    let node : IsNode R q number list items = node_of R q number list items c.in_ok-constants.constants c.in_ok-column.ensures.value c.constants-2.view_is c.in_ok-constants.ensures.value c.in_ok-constants.ensures.few c.requires.reduced in
     let small : g.F.Field.Q ≤ 256 = few_elements g.F.Field.Q g.F.Field.BITS met.size met.most_bits in
     let inside : c.constants.n < length items = omega (arith, ap length c.constants-2.view_is, c.len-n-end.ensures, c.constants-test.true) in
     let same : c.index-as_slice-n.result ≡ coefficients R items c.constants.n =
@@ -114,7 +114,7 @@ constants-preserved g t c =
     let q : Bivariate g.row.F.Denot = c.args.q.now in
     let list : List g.row.F.Denot = c.in_ok-column.column in
     let items : List g.row.F.Denot = c.constants-2.inside.items.items in
-    let node : IsNode R q number list items = node_of R q number list items c.in_ok-constants.constants c.in_ok-column.ensures c.constants-2.view_is c.in_ok-constants.ensures.value c.in_ok-constants.ensures.few c.requires.reduced in
+    let node : IsNode R q number list items = node_of R q number list items c.in_ok-constants.constants c.in_ok-column.ensures.value c.constants-2.view_is c.in_ok-constants.ensures.value c.in_ok-constants.ensures.few c.requires.reduced in
     let inside : c.constants.n < length items = omega (arith, ap length c.constants-2.view_is, c.len-n-end.ensures, c.constants-test.true) in
     let same : c.index-as_slice-n.result ≡ coefficients R items c.constants.n =
     constant_is R q items c.in_ok-constants.constants c.as_slice.result.now c.constants.n c.index-as_slice-n.result c.constants-2.view_is c.as_slice.ensures inside c.index-as_slice-n.is in
@@ -144,7 +144,7 @@ returns-clause-these g t c =
     let q : Bivariate g.row.F.Denot = c.args.q.now in
     let list : List g.row.F.Denot = c.in_ok-column.column in
     let items : List g.row.F.Denot = c.constants-2.inside.items.items in
-    let node : IsNode R q number list items = node_of R q number list items c.in_ok-constants.constants c.in_ok-column.ensures c.constants-2.view_is c.in_ok-constants.ensures.value c.in_ok-constants.ensures.few c.requires.reduced in
+    let node : IsNode R q number list items = node_of R q number list items c.in_ok-constants.constants c.in_ok-column.ensures.value c.constants-2.view_is c.in_ok-constants.ensures.value c.in_ok-constants.ensures.few c.requires.reduced in
     let end : c.constants.n ≡ length items = omega (arith, ap length c.constants-2.view_is, c.len-n-end.ensures, c.constants-test.false) in
     node_lists R q number list items node c.args.count c.constants.n c.constants.found.items (omega arith) end c.constants.invariant.found
 
@@ -156,7 +156,7 @@ returns-clause-few g t c d some narrow =
     let q : Bivariate g.row.F.Denot = c.args.q.now in
     let list : List g.row.F.Denot = c.in_ok-column.column in
     let items : List g.row.F.Denot = c.constants-2.inside.items.items in
-    let node : IsNode R q number list items = node_of R q number list items c.in_ok-constants.constants c.in_ok-column.ensures c.constants-2.view_is c.in_ok-constants.ensures.value c.in_ok-constants.ensures.few c.requires.reduced in
+    let node : IsNode R q number list items = node_of R q number list items c.in_ok-constants.constants c.in_ok-column.ensures.value c.constants-2.view_is c.in_ok-constants.ensures.value c.in_ok-constants.ensures.few c.requires.reduced in
     let end : c.constants.n ≡ length items = omega (arith, ap length c.constants-2.view_is, c.len-n-end.ensures, c.constants-test.false) in
     let y : ℕ = greatest y_power q + 1 in
     let e : ℕ = greatest (weight_by (c.args.count - 1)) q + 1 in
@@ -171,7 +171,7 @@ returns-clause-products g t c d y e narrow l m =
     let q : Bivariate g.row.F.Denot = c.args.q.now in
     let list : List g.row.F.Denot = c.in_ok-column.column in
     let items : List g.row.F.Denot = c.constants-2.inside.items.items in
-    let node : IsNode R q number list items = node_of R q number list items c.in_ok-constants.constants c.in_ok-column.ensures c.constants-2.view_is c.in_ok-constants.ensures.value c.in_ok-constants.ensures.few c.requires.reduced in
+    let node : IsNode R q number list items = node_of R q number list items c.in_ok-constants.constants c.in_ok-column.ensures.value c.constants-2.view_is c.in_ok-constants.ensures.value c.in_ok-constants.ensures.few c.requires.reduced in
     let small : g.F.Field.Q ≤ 256 = few_elements g.F.Field.Q g.F.Field.BITS met.size met.most_bits in
     let end : c.constants.n ≡ length items = omega (arith, ap length c.constants-2.view_is, c.len-n-end.ensures, c.constants-test.false) in
     node_bound R q met.field number list items node c.args.count c.constants.n (length c.constants.found.items) y e c.roots.new.prods c.constants.prods c.args.prods.now g.F.Field.Q d

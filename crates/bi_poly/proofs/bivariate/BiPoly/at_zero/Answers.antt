@@ -1,9 +1,10 @@
 use Rattle.std.proofs.Common.{◌≡◌, ◌+◌, ◌<◌, ◌≤◌, List, [], length, sym, ap, subst, ◌∙◌, arith}
 use Rattle.std.proofs.lemmas.List.{get_or_default}
-use Rattle.algebra.specs.Bivariate.{coefficient}
+use Rattle.algebra.specs.Bivariate.{coefficient, IsWithin}
 use Rattle.algebra.specs.Lists.{coefficients}
 use Rattle.uni_poly.proofs.Filling.{IsFilled, filled_push, filled_all}
 use Rattle.bi_poly.specs.Rows.{cell}
+use Rattle.bi_poly.proofs.Cells.{limited_within}
 use Rattle.bi_poly.proofs.RowDerivatives.{coefficient_is}
 use Rattle.bi_poly.proofs.SubstitutedRows.{cell_past, list_same}
 use Rattle.bi_poly.proofs.bivariate.BiPoly.at_zero.Goals as goal
@@ -18,8 +19,13 @@ rows-preserved g c =
     subst (IsFilled R (λ k. cell R rows 0 k) (c.rows.j + 1)) (sym c.in_ok-push.ensures.items)
     (filled_push R (λ k. cell R rows 0 k) c.rows.j c.rows.column.items c.coef.result c.rows.invariant here)
 
-pub returns : goal.returns
-returns g c =
+pub returns-clause-limits : goal.returns-clause-limits
+returns-clause-limits g c =
+    let met = g.met.F.Field in
+    subst (IsWithin 65536 4096) c.self.view_is (limited_within g.F.Field.ring g.F.Field.number met.number_nil met.same c.self.inside.rows.items c.self.invariant)
+
+pub returns-clause-value : goal.returns-clause-value
+returns-clause-value g c =
     let R = g.F.Field.ring in
     let met = g.met.F.Field in
     let rows : List (List g.row.F.Denot) = c.self.inside.rows.items in

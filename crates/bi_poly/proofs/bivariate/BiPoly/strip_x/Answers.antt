@@ -1,12 +1,17 @@
 use Rattle.std.proofs.Common.{◌≡◌, ◌≢◌, inl, inr, ℕ, ◌+◌, ◌<◌, ◌≤◌, List, None, sym, ap, subst, ◌∙◌, arith}
 use Rattle.std.specs.FinMap.{get}
 use Rattle.std.proofs.lemmas.Bool.{cases_lt}
-use Rattle.algebra.specs.Bivariate.{Bivariate, x_power}
+use Rattle.algebra.specs.Bivariate.{Bivariate, IsProper, x_power}
 use Rattle.algebra.proofs.Entries.{greatest_reached}
 use Rattle.bi_poly.specs.Rows.{cell, polynomial_of}
 use Rattle.bi_poly.specs.Results.{IsPowerOfX, kept}
-use Rattle.bi_poly.proofs.Cells.{get_cell, get_nonzero, nonzero_get}
+use Rattle.bi_poly.proofs.Cells.{proper_polynomial, get_cell, get_nonzero, nonzero_get}
 use Rattle.bi_poly.proofs.bivariate.BiPoly.strip_x.Goals as goal
+
+pub returns-clause-proper : goal.returns-clause-proper
+returns-clause-proper g c =
+    let met = g.met.F.Field in
+    subst (IsProper g.F.Field.ring) c.self.view_is (proper_polynomial g.F.Field.ring g.F.Field.number met.number_nil met.same c.self.inside.rows.items)
 
 pub returns-clause-power : goal.returns-clause-power
 returns-clause-power g c =
