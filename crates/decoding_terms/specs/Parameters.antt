@@ -36,6 +36,14 @@ pub record AreEnough (w c r : ℕ) : Type 0 where
   pub some_bound : 1 ≤ c
   pub many : c * c * w < r
 
--- whether codes of dimension k allow for coalitions of c: c is 1 to 8, and c (k - 1) is at most 12
+-- coalitions of so many may be allowed for
+abbrev pub is_bound : ℕ → Bool
+is_bound c = nat_le 1 c && nat_le c 8
+
+-- tracing a coalition of so many is not too much work
+abbrev pub is_light : ℕ → ℕ → Bool
+is_light k c = nat_le (c * (k - 1)) 12
+
+-- whether codes of dimension k allow for coalitions of c
 abbrev pub is_allowed_bound : ℕ → ℕ → Bool
-is_allowed_bound k c = nat_le 1 c && (nat_le c 8 && nat_le (c * (k - 1)) 12)
+is_allowed_bound k c = is_bound c && is_light k c

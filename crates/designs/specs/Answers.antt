@@ -1,6 +1,7 @@
 -- Which answer each call on designs gives. Want of memory is the one answer that is always free.
 use Rattle.std.specs.Prelude.{◌≡◌, ◌<◌, ◌≤◌, ℕ, ◌&&◌, nat_lt, if◌then◌else◌, List, length, map, All, Option, Some, None, Result, Ok, Err}
 use Rattle.std.specs.List.Sorted.{IsStrictlyIncreasing}
+use Rattle.text_terms.specs.Answers.{RefusesAs, AnswersAs}
 use Rattle.title_terms.specs.declared.fault.DesignFault.{DesignFault}
 use Rattle.title_terms.specs.Designs.{Design, is_above}
 use Rattle.title_terms.specs.DesignRules.{Proposal}
@@ -8,15 +9,17 @@ use Rattle.designs.specs.declared.errors.DesignError.{DesignError}
 use Rattle.designs.specs.declared.errors.DesignError.TheVariants as errors
 use Rattle.designs.specs.declared.judging.Wanted.{Wanted}
 
+abbrev pub fault_in : DesignError → Option DesignFault
+fault_in errors.Memory = None
+fault_in (errors.NotDesign fault) = Some fault
+
 -- the refusal is the wanted one, or memory ran out
 abbrev pub IsRefused : {A : Type 0} → DesignError → Result A DesignFault → Type 0
-IsRefused errors.Memory wanted = Unit {0}
-IsRefused (errors.NotDesign fault) wanted = wanted ≡ Err fault
+IsRefused error wanted = RefusesAs (fault_in error) wanted
 
 -- the design or the fault that is wanted
 abbrev pub Gives : Result Design DesignError → Result Design DesignFault → Type 0
-Gives (Ok design) wanted = wanted ≡ Ok design
-Gives (Err error) wanted = IsRefused error wanted
+Gives result wanted = AnswersAs fault_in result wanted
 
 -- the list that is wanted, or the fault
 abbrev pub GivesMarks : {X : Type 0} → (X → List ℕ) → Result X DesignError → Result (List ℕ) DesignFault → Type 0

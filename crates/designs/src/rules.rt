@@ -2,7 +2,9 @@
 
 ghost use Rattle.std.specs.Prelude.{◌≡◌, ◌≤◌, IfOk};
 ghost use Rattle.std.specs.List.{list_all};
-ghost use Rattle.title_terms.specs.Designs.{are_bits, is_dimension, is_bound, is_light, is_affix, is_affix_character, is_above, are_enough, have_room};
+ghost use Rattle.decoding_terms.specs.Parameters.{is_bound, is_light};
+ghost use Rattle.register_terms.specs.Rules.{are_bits, is_dimension};
+ghost use Rattle.title_terms.specs.Designs.{is_affix, is_affix_character, is_above, are_enough, have_room};
 ghost use Rattle.title_terms.specs.DesignRules.{allowed};
 ghost use Rattle.title_terms.specs.declared.fault.DesignFault.TheVariants as faults;
 

@@ -1,6 +1,7 @@
 -- What a decoder answers.
 -- Source: this project's own.
-use Rattle.std.specs.Prelude.{◌≡◌, ℕ, ◌-◌, ◌≤◌, nat_lt, if◌then◌else◌, List, Option, Result, Ok, Err}
+use Rattle.std.specs.Prelude.{◌≡◌, ℕ, ◌-◌, ◌≤◌, nat_lt, if◌then◌else◌, List, Option, Some, None, Result, Ok, Err}
+use Rattle.text_terms.specs.Answers.{AnswersAs}
 use Rattle.code_terms.specs.Words.{readable}
 use Rattle.decoding_terms.specs.Parameters.{AreEnough, AreParameters, is_allowed_bound}
 use Rattle.decoder_terms.specs.Decoding.{decoded, not_enough}
@@ -13,12 +14,14 @@ abbrev pub decoding : (m k : ℕ) → List (Option ℕ) → ℕ → Result (List
 decoding m k word c =
     if is_allowed_bound k c then (if nat_lt (not_enough k c) (readable word) then Ok (decoded m k word c) else Err (TooFew (readable word))) else Err BadBound
 
+abbrev pub refusal_in : DecodeError → Option DecodeError
+refusal_in BadBound = Some BadBound
+refusal_in (TooFew readable) = Some (TooFew readable)
+refusal_in Memory = None
+
 -- what is wanted is answered; only want of memory may come in place of it
 abbrev pub DecodesAs : Result (List ℕ) DecodeError → Result (List ℕ) DecodeError → Type 0
-DecodesAs (Ok messages) wanted = wanted ≡ Ok messages
-DecodesAs (Err BadBound) wanted = wanted ≡ Err BadBound
-DecodesAs (Err (TooFew r)) wanted = wanted ≡ Err (TooFew r)
-DecodesAs (Err Memory) wanted = Unit {0}
+DecodesAs result wanted = AnswersAs refusal_in result wanted
 
 -- a curve through r points, where those are enough, costs at most so many products with the parameters that are chosen for it
 abbrev pub CostsAtMost : (Params → ℕ) → (k c r most : ℕ) → Type 0

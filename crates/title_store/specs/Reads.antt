@@ -1,5 +1,6 @@
 -- What the readers of lines find, and which answer a reading gives. Want of memory is the one answer that is always free.
-use Rattle.std.specs.Prelude.{◌≡◌, [], Result, Ok, Err}
+use Rattle.std.specs.Prelude.{◌≡◌, [], Option, Some, None, Result, Ok, Err}
+use Rattle.text_terms.specs.Answers.{RefusesAs, AnswersAs}
 use Rattle.form_terms.specs.declared.fault.LineFault.{LineFault}
 use Rattle.form_terms.specs.Forms.{Place, Form}
 use Rattle.playlist_terms.specs.Playlists.{PlaylistSegment}
@@ -13,10 +14,13 @@ use Rattle.title_store.specs.declared.reading.Head.{Head}
 use Rattle.title_store.specs.declared.reading.Parts.{Parts}
 use Rattle.title_store.specs.declared.lines.SegmentParts.{SegmentParts}
 
+abbrev pub fault_in : TitleReadError → Option (LineFault TitleKind)
+fault_in read_errors.Memory = None
+fault_in (read_errors.NotTitle fault) = Some fault
+
 -- the refusal is the wanted one, or memory ran out
 abbrev pub IsRefused : {A : Type 0} → TitleReadError → Result A (LineFault TitleKind) → Type 0
-IsRefused read_errors.Memory wanted = Unit {0}
-IsRefused (read_errors.NotTitle fault) wanted = wanted ≡ Err fault
+IsRefused error wanted = RefusesAs (fault_in error) wanted
 
 -- the form finds what was answered, seen so, and leaves off at the new place; or it has the fault that was answered
 abbrev pub Reads : {X A : Type 0} → (X → A) → Result X TitleReadError → Place → Place → Form TitleKind A → Type 0
@@ -25,8 +29,7 @@ Reads view (Err e) old new form = IsRefused e (form old)
 
 -- the title or the fault that is wanted
 abbrev pub ReadsAs : Result Title TitleReadError → Result Title (LineFault TitleKind) → Type 0
-ReadsAs (Ok title) wanted = wanted ≡ Ok title
-ReadsAs (Err e) wanted = IsRefused e wanted
+ReadsAs result wanted = AnswersAs fault_in result wanted
 
 -- a design whose marks are still to come
 abbrev pub head_view : Head → Design

@@ -4,7 +4,7 @@ ghost use Rattle.std.specs.Prelude.{◌≡◌, ◌+◌, ◌*◌, ◌<◌, ◌≤
 ghost use Rattle.std.specs.List.{list_all};
 ghost use Rattle.form_terms.specs.Forms.{rows_after};
 ghost use Rattle.line_reader.specs.Finds.{Finds};
-ghost use Rattle.title_terms.specs.Designs.{is_bound, is_light};
+ghost use Rattle.decoding_terms.specs.Parameters.{is_bound, is_light};
 ghost use Rattle.title_terms.specs.TitleText.{design_form, list_form, number_line, segment_form, mark_form, marked_form, digest_form, title_form, title_of, title_text};
 ghost use Rattle.title_terms.specs.Titles.{Title, IsTitle};
 ghost use Rattle.title_store.specs.Cells.{filled};

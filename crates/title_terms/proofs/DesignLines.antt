@@ -16,7 +16,9 @@ use Rattle.form_terms.proofs.LineLaws.{OneLine}
 use Rattle.form_terms.proofs.FormLaws.{Took, took_then, split, join, gave, given, met, meets, line_read, line_again, number_read, number_again}
 use Rattle.title_terms.specs.declared.fault.TitleKind.{TitleKind}
 use Rattle.title_terms.specs.declared.fault.TitleKind.TheVariants as kinds
-use Rattle.title_terms.specs.Designs.{Design, IsDesign, are_bits, is_dimension, is_bound, is_light, is_affix, is_affix_character}
+use Rattle.decoding_terms.specs.Parameters.{is_bound, is_light}
+use Rattle.register_terms.specs.Rules.{are_bits, is_dimension}
+use Rattle.title_terms.specs.Designs.{Design, IsDesign, is_affix, is_affix_character}
 use Rattle.title_terms.specs.TitleText.{design_lines, exactly, text_after, kinds_of_rows, text_line, design_form}
 use Rattle.title_terms.proofs.SayLaws.{exactly_is, exactly_again, text_after_is, text_after_again}
 

@@ -8,7 +8,9 @@ use Rattle.toml.specs.Data.{Members}
 use Rattle.text_terms.specs.Names.{is_plain}
 use Rattle.title_terms.specs.declared.fault.DesignFault.{DesignFault}
 use Rattle.title_terms.specs.declared.fault.DesignFault.TheVariants.{BadName, BadM, BadK, BadBound, TooMuchWork, BadPrefix, BadSuffix, BadMarked, TooManyPlaces, TooWeak}
-use Rattle.title_terms.specs.Designs.{Design, IsDesign, are_bits, is_dimension, is_bound, is_light, is_affix, is_above, are_enough, have_room}
+use Rattle.decoding_terms.specs.Parameters.{is_bound, is_light}
+use Rattle.register_terms.specs.Rules.{are_bits, is_dimension}
+use Rattle.title_terms.specs.Designs.{Design, IsDesign, is_affix, is_above, are_enough, have_room}
 use Rattle.title_terms.specs.DesignRules.{Proposal, proposal, ◌>>=◌, ◌>>◌, require, allowed, marks_behind, design_from}
 use Rattle.title_terms.specs.DesignText.{document, proposal_in, design_in, design_of}
 use Rattle.title_terms.proofs.MarkLines.{AreMarks, no_marks, rises_push, rises_above}

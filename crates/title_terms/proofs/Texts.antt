@@ -17,7 +17,9 @@ use Rattle.playlist_terms.specs.Lines.{stands_as_uri}
 use Rattle.playlist_terms.specs.Playlists.{PlaylistSegment, Playlist, IsSegment, IsPlaylist}
 use Rattle.title_terms.specs.declared.fault.TitleKind.{TitleKind}
 use Rattle.title_terms.specs.declared.fault.TitleKind.TheVariants as kinds
-use Rattle.title_terms.specs.Designs.{Design, are_bits, is_bound, is_light, have_room, places}
+use Rattle.decoding_terms.specs.Parameters.{is_bound, is_light}
+use Rattle.register_terms.specs.Rules.{are_bits}
+use Rattle.title_terms.specs.Designs.{Design, have_room, places}
 use Rattle.title_terms.specs.Titles.{Title, IsTitle, IsDigest}
 use Rattle.title_terms.specs.TitleText.{cut_text, segment_text, design_lines, list_lines, marked_lines, title_lines, title_text, design_form, list_form, marked_form, digest_form, title_form, title_of}
 use Rattle.title_terms.proofs.DesignLines.{IsSketch, sketch_of, affix_one_line, design_read, design_again}

@@ -3,7 +3,9 @@ use Rattle.std.specs.Prelude.{ℕ, Bool, ◌&&◌, nat_lt, if◌then◌else◌, 
 use Rattle.text_terms.specs.Names.{is_plain}
 use Rattle.title_terms.specs.declared.fault.DesignFault.{DesignFault}
 use Rattle.title_terms.specs.declared.fault.DesignFault.TheVariants.{BadName, BadM, BadK, BadBound, TooMuchWork, BadPrefix, BadSuffix, BadMarked, TooManyPlaces, TooWeak}
-use Rattle.title_terms.specs.Designs.{Design, are_bits, is_dimension, is_bound, is_light, is_affix, is_above, are_enough, have_room}
+use Rattle.decoding_terms.specs.Parameters.{is_bound, is_light}
+use Rattle.register_terms.specs.Rules.{are_bits, is_dimension}
+use Rattle.title_terms.specs.Designs.{Design, is_affix, is_above, are_enough, have_room}
 
 -- the values that somebody wants for a design. A number is None where it is below 0, and an item of the list also where it
 -- is no whole number

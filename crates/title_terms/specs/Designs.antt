@@ -4,6 +4,8 @@ use Rattle.std.specs.Prelude.{◌≡◌, ℕ, ◌-◌, ◌*◌, ◌^◌, ◌<◌
 use Rattle.std.specs.Fmt.{decimal}
 use Rattle.std.specs.List.{list_all}
 use Rattle.std.specs.List.Sorted.{IsStrictlyIncreasing}
+use Rattle.decoding_terms.specs.Parameters.{is_bound, is_light}
+use Rattle.register_terms.specs.Rules.{are_bits, is_dimension}
 use Rattle.text_terms.specs.Names.{is_plain, is_plain_character}
 use Rattle.hex.specs.Hex.{encode_lower}
 
@@ -27,19 +29,6 @@ abbrev pub symbols : Design → ℕ
 symbols d = 2 ^ d.bits
 
 -- ---- the rules
-
-abbrev pub are_bits : ℕ → Bool
-are_bits m = nat_le 4 m && nat_le m 8
-
-abbrev pub is_dimension : ℕ → Bool
-is_dimension k = nat_le 2 k && nat_le k 13
-
-abbrev pub is_bound : ℕ → Bool
-is_bound c = nat_le 1 c && nat_le c 8
-
--- tracing a coalition of this bound is not too much work
-abbrev pub is_light : ℕ → ℕ → Bool
-is_light k c = nat_le (c * (k - 1)) 12
 
 abbrev pub is_affix_character : ℕ → Bool
 is_affix_character b = is_plain_character b || b == 47

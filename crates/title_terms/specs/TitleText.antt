@@ -14,7 +14,9 @@ use Rattle.form_terms.specs.Forms.{Form, ◌>>=◌, ◌>>◌, give, require, row
 use Rattle.playlist_terms.specs.Playlists.{PlaylistSegment, Playlist, is_segment_uri}
 use Rattle.title_terms.specs.declared.fault.TitleKind.{TitleKind}
 use Rattle.title_terms.specs.declared.fault.TitleKind.TheVariants as kinds
-use Rattle.title_terms.specs.Designs.{Design, are_bits, is_dimension, is_bound, is_light, is_affix, are_enough, have_room, is_above}
+use Rattle.decoding_terms.specs.Parameters.{is_bound, is_light}
+use Rattle.register_terms.specs.Rules.{are_bits, is_dimension}
+use Rattle.title_terms.specs.Designs.{Design, is_affix, are_enough, have_room, is_above}
 use Rattle.title_terms.specs.Titles.{Title}
 
 abbrev pub TitleFault : Type 0

@@ -4,7 +4,8 @@ ghost use Rattle.std.specs.Prelude.{◌↔◌, ◌≡◌, ◌+◌, ℕ, true, fa
 ghost use Rattle.std.specs.List.{flat_map, range_with_len};
 ghost use Rattle.form_terms.specs.TextLines.{line};
 ghost use Rattle.form_terms.specs.Forms.{fault};
-ghost use Rattle.title_terms.specs.Designs.{Design, IsDesign, variant_name, is_affix, are_enough, have_room, is_light};
+ghost use Rattle.decoding_terms.specs.Parameters.{is_light};
+ghost use Rattle.title_terms.specs.Designs.{Design, IsDesign, variant_name, is_affix, are_enough, have_room};
 ghost use Rattle.title_terms.specs.DesignRules.{Proposal, proposal, design_from};
 ghost use Rattle.title_terms.specs.DesignText.{design_of};
 ghost use Rattle.title_terms.specs.Film.{film_design, film_lines, film_with, film_with_two, designed};

@@ -1,5 +1,6 @@
 -- What the desk answers. This project's own.
-use Rattle.std.specs.Prelude.{◌≡◌, ℕ, nat_lt, if◌then◌else◌, List, Option, Result, Ok, Err}
+use Rattle.std.specs.Prelude.{◌≡◌, ℕ, nat_lt, if◌then◌else◌, List, Option, Some, None, Result, Ok, Err}
+use Rattle.text_terms.specs.Answers.{AnswersAs}
 use Rattle.code_terms.specs.Words.{readable}
 use Rattle.decoding_terms.specs.Parameters.{is_allowed_bound}
 use Rattle.decoder_terms.specs.Decoding.{not_enough}
@@ -14,9 +15,11 @@ abbrev pub tracing : Roll → List (Option ℕ) → ℕ → Result Findings Desk
 tracing roll word c =
     if is_allowed_bound roll.dimension c then (if nat_lt (not_enough roll.dimension c) (readable word) then Ok (findings roll word c) else Err (TooFew (readable word))) else Err BadBound
 
+abbrev pub refusal_in : DeskError → Option DeskError
+refusal_in BadBound = Some BadBound
+refusal_in (TooFew readable) = Some (TooFew readable)
+refusal_in Memory = None
+
 -- what is wanted is answered; only want of memory may come in place of it
 abbrev pub TracesAs : Result Findings DeskError → Result Findings DeskError → Type 0
-TracesAs (Ok found) wanted = wanted ≡ Ok found
-TracesAs (Err BadBound) wanted = wanted ≡ Err BadBound
-TracesAs (Err (TooFew r)) wanted = wanted ≡ Err (TooFew r)
-TracesAs (Err Memory) wanted = Unit {0}
+TracesAs result wanted = AnswersAs refusal_in result wanted
