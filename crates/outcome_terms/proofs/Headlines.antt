@@ -145,11 +145,11 @@ was_allowed blobs k c bound h =
     let so = met blobs (is_allowed_bound k c) (BadBound c) _ bound h in
     record { allowed = so.so; same = was_given blobs c bound so.then }
 
-record Reported (e : Enrolment) (word : List (Option ℕ)) (c : ℕ) (text : List ℕ) : Type 0 where
-  enough : not_enough e.dimension c < readable word
-  is : report_text (findings (roll_of e) word c) ≡ text
+pub record Reported (e : Enrolment) (word : List (Option ℕ)) (c : ℕ) (text : List ℕ) : Type 0 where
+  pub enough : not_enough e.dimension c < readable word
+  pub is : report_text (findings (roll_of e) word c) ≡ text
 
-reported : (blobs : Blobs) (e : Enrolment) (word : List (Option ℕ)) (c : ℕ) (text : List ℕ) → given blobs (report e word c) ≡ Ok text → Reported e word c text
+pub reported : (blobs : Blobs) (e : Enrolment) (word : List (Option ℕ)) (c : ℕ) (text : List ℕ) → given blobs (report e word c) ≡ Ok text → Reported e word c text
 unfolding report
 reported blobs e word c text h =
     let m = met blobs (nat_lt (not_enough e.dimension c) (readable word)) (TooFew (readable word) (not_enough e.dimension c)) _ text h in

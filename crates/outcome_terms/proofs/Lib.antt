@@ -2,6 +2,7 @@ pub mod Readings
 pub mod Following
 pub mod Lists
 pub mod Rows
+mod TitleRows
 pub mod Givens
 pub mod Performing
 pub mod Calls
@@ -10,5 +11,6 @@ pub mod Spending
 pub mod AlongLaws
 pub mod TitleMaking
 pub mod PackagingHeadlines
+pub mod TraceHeadlines
 pub mod GivenParts
 pub mod PackagingNames

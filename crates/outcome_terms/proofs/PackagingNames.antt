@@ -15,12 +15,11 @@ use Rattle.title_terms.specs.Designs.{Design}
 use Rattle.title_terms.specs.Titles.{Title}
 use Rattle.title_terms.specs.TitleText.{title_of, title_text}
 use Rattle.title_terms.specs.DesignText.{design_of}
-use Rattle.packaging_terms.specs.declared.fault.PackagingFault.TheVariants.{NoSegment, BadDesign, BadPlaylist, BadTitle, Mismatch}
 use Rattle.packaging_terms.specs.Licensees.{fits, licensed_text}
 use Rattle.packaging_terms.specs.Variants.{variants, blob_of, unmarkable}
 use Rattle.packaging_terms.specs.Making.{title_with}
 use Rattle.outcome_terms.specs.declared.fault.Fault.{Fault}
-use Rattle.outcome_terms.specs.declared.fault.Fault.TheVariants.{BadRegister, SameName, Unknown, Withdrawn}
+use Rattle.outcome_terms.specs.declared.fault.Fault.TheVariants.{BadDesign, BadPlaylist, BadRegister, BadTitle, Mismatch, NoSegment, SameName, Unknown, Withdrawn}
 use Rattle.outcome_terms.specs.declared.refusal.Refusal.{Refusal}
 use Rattle.outcome_terms.specs.Reading.{Reading, Give, Refuse, Read, ◌>>=◌, ◌>>◌, require, blob, found, understood, read_blob, names_with, with_bytes, given, names_read}
 use Rattle.outcome_terms.specs.Stores.{Writing, Exactly}
@@ -29,7 +28,7 @@ use Rattle.outcome_terms.specs.Along.{along}
 use Rattle.outcome_terms.specs.PackageCommand.{title_under, packaged, package_}
 use Rattle.outcome_terms.proofs.GivenParts.{good_gives}
 use Rattle.outcome_terms.proofs.Givens.{took}
-use Rattle.outcome_terms.specs.TitleCommand.{Telling, same_digest, design_under, playlist_under, digest_under, with_digest, with_variant, title_made, title}
+use Rattle.outcome_terms.specs.TitleCommand.{same_digest, design_under, playlist_under, digest_under, with_digest, with_variant, title_made, title}
 
 -- ---- one reading and then another
 
@@ -66,43 +65,43 @@ names_value {A} {F} blobs name fault reads = by (read_blob blobs name)
 
 -- ---- variant by variant
 
-module _ (tell : Telling) (blobs : Blobs) (d : Design) where
-  none_read : (digests : List (List ℕ)) (variant : ℕ) (digest : List ℕ) → names_read blobs (with_digest tell d digests variant digest) ≡ []
+module _ (blobs : Blobs) (d : Design) where
+  none_read : (digests : List (List ℕ)) (variant : ℕ) (digest : List ℕ) → names_read blobs (with_digest d digests variant digest) ≡ []
   unfolding names_read with_digest
   none_read digests variant digest = by (position (bytes_eq digest) digests)
     where
-      by : (o : Option ℕ) → names_read blobs (option_map (λ earlier. same_digest tell d earlier variant) o >> Give (digests ++ digest ∷ [])) ≡ []
+      by : (o : Option ℕ) → names_read blobs (option_map (λ earlier. same_digest d earlier variant) o >> Give (digests ++ digest ∷ [])) ≡ []
       by None = refl
       by (Some earlier) = refl
 
-  one_read : (digests : List (List ℕ)) (variant : ℕ) → names_read blobs (with_variant tell d digests variant) ≡ blob_of d variant ∷ []
+  one_read : (digests : List (List ℕ)) (variant : ℕ) → names_read blobs (with_variant d digests variant) ≡ blob_of d variant ∷ []
   unfolding names_read ◌>>=◌ with_variant digest_under
   one_read digests variant = by (read_blob blobs (blob_of d variant))
     where
-      by : (r : Result (List ℕ) Refusal) → blob_of d variant ∷ names_with r (λ bytes. names_read blobs (with_digest tell d digests variant (sha256 bytes))) ≡ blob_of d variant ∷ []
+      by : (r : Result (List ℕ) Refusal) → blob_of d variant ∷ names_with r (λ bytes. names_read blobs (with_digest d digests variant (sha256 bytes))) ≡ blob_of d variant ∷ []
       by (Ok bytes) = ap (λ (names : List (List ℕ)). blob_of d variant ∷ names) (none_read digests variant (sha256 bytes))
       by (Err e) = refl
 
   -- all that a reading along the variants reads, where it gives something
-  along_read : (digests made : List (List ℕ)) (xs : List ℕ) → given blobs (along (with_variant tell d) digests xs) ≡ Ok made → names_read blobs (along (with_variant tell d) digests xs) ≡ map (blob_of d) xs
+  along_read : (digests made : List (List ℕ)) (xs : List ℕ) → given blobs (along (with_variant d) digests xs) ≡ Ok made → names_read blobs (along (with_variant d) digests xs) ≡ map (blob_of d) xs
   unfolding along names_read
   along_read digests made [] is = refl
   along_read digests made (x ∷ xs) is =
-      let t = took blobs (with_variant tell d digests x) (λ more. along (with_variant tell d) more xs) made is in
-      names_on blobs (with_variant tell d digests x) (λ more. along (with_variant tell d) more xs) t.value t.first
-      ∙ ap (λ (names : List (List ℕ)). names ++ names_read blobs (along (with_variant tell d) t.value xs)) (one_read digests x)
+      let t = took blobs (with_variant d digests x) (λ more. along (with_variant d) more xs) made is in
+      names_on blobs (with_variant d digests x) (λ more. along (with_variant d) more xs) t.value t.first
+      ∙ ap (λ (names : List (List ℕ)). names ++ names_read blobs (along (with_variant d) t.value xs)) (one_read digests x)
       ∙ ap (λ (names : List (List ℕ)). blob_of d x ∷ names) (along_read t.value made xs t.then)
 
-  pub title_read : (p : Playlist) (t : Title) → given blobs (title_made tell d p) ≡ Ok t → names_read blobs (title_made tell d p) ≡ map (blob_of d) (variants d)
+  pub title_read : (p : Playlist) (t : Title) → given blobs (title_made d p) ≡ Ok t → names_read blobs (title_made d p) ≡ map (blob_of d) (variants d)
   unfolding title_made names_read given
   title_read p t is = by (unmarkable d p) is
     where
-      by : (o : Option ℕ) → given blobs (option_map (λ segment. tell (NoSegment segment)) o >> (along (with_variant tell d) [] (variants d) >>= λ digests. Give (title_with d p digests))) ≡ Ok t
-          → names_read blobs (option_map (λ segment. tell (NoSegment segment)) o >> (along (with_variant tell d) [] (variants d) >>= λ digests. Give (title_with d p digests))) ≡ map (blob_of d) (variants d)
+      by : (o : Option ℕ) → given blobs (option_map NoSegment o >> (along (with_variant d) [] (variants d) >>= λ digests. Give (title_with d p digests))) ≡ Ok t
+          → names_read blobs (option_map NoSegment o >> (along (with_variant d) [] (variants d) >>= λ digests. Give (title_with d p digests))) ≡ map (blob_of d) (variants d)
       by None given_is =
-          let k = took blobs (along (with_variant tell d) [] (variants d)) (λ digests. Give (title_with d p digests)) t given_is in
-          names_on blobs (along (with_variant tell d) [] (variants d)) (λ digests. Give (title_with d p digests)) k.value k.first
-          ∙ append-nil (names_read blobs (along (with_variant tell d) [] (variants d)))
+          let k = took blobs (along (with_variant d) [] (variants d)) (λ digests. Give (title_with d p digests)) t given_is in
+          names_on blobs (along (with_variant d) [] (variants d)) (λ digests. Give (title_with d p digests)) k.value k.first
+          ∙ append-nil (names_read blobs (along (with_variant d) [] (variants d)))
           ∙ along_read [] k.value (variants d) k.first
       by (Some segment) given_is = absurd cc
 
@@ -111,44 +110,44 @@ module _ (tell : Telling) (blobs : Blobs) (d : Design) where
 unhindered_names : {B : Type 0} (blobs : Blobs) (hindered : Bool) (fault : Fault) (next : Reading B) → hindered ≡ false → names_read blobs (require (not hindered) fault >> next) ≡ names_read blobs next
 unhindered_names blobs hindered fault next is = ap (λ (b : Bool). names_read blobs (require (not b) fault >> next)) is
 
-pub title_names : (tell : Telling) (blobs : Blobs) (design source out bytes text : List ℕ) (d : Design) (p : Playlist) (t : Title) → (bytes_eq out design || bytes_eq out source) ≡ false
-    → read_blob blobs design ≡ Ok bytes → design_of bytes ≡ Ok d → read_blob blobs source ≡ Ok text → playlist_of text ≡ Ok p → given blobs (title_made tell d p) ≡ Ok t
-    → names_read blobs (title tell design source out) ≡ design ∷ source ∷ map (blob_of d) (variants d)
+pub title_names : (blobs : Blobs) (design source out bytes text : List ℕ) (d : Design) (p : Playlist) (t : Title) → (bytes_eq out design || bytes_eq out source) ≡ false
+    → read_blob blobs design ≡ Ok bytes → design_of bytes ≡ Ok d → read_blob blobs source ≡ Ok text → playlist_of text ≡ Ok p → given blobs (title_made d p) ≡ Ok t
+    → names_read blobs (title design source out) ≡ design ∷ source ∷ map (blob_of d) (variants d)
 unfolding title design_under playlist_under names_read
-title_names tell blobs design source out bytes text d p t differs read good more also is =
+title_names blobs design source out bytes text d p t differs read good more also is =
     let last : Title → Reading Writing = λ t. Give (Exactly (title_text t)) in
-    let behind : Playlist → Reading Writing = λ p. title_made tell d p >>= last in
-    let whole : Design → Reading Writing = λ d. playlist_under tell source >>= λ p. title_made tell d p >>= last in
-    unhindered_names blobs (bytes_eq out design || bytes_eq out source) (SameName out) (design_under tell design >>= whole) differs
-    ∙ names_on blobs (design_under tell design) whole d (good_gives blobs design (λ fault. tell (BadDesign fault)) design_of bytes d read good)
-    ∙ ap (λ (names : List (List ℕ)). names ++ names_read blobs (whole d)) (names_value blobs design (λ fault. tell (BadDesign fault)) design_of)
-    ∙ ap (λ (names : List (List ℕ)). design ∷ names) (names_on blobs (playlist_under tell source) behind p (good_gives blobs source (λ at. tell (BadPlaylist at)) playlist_of text p more also))
-    ∙ ap (λ (names : List (List ℕ)). design ∷ (names ++ names_read blobs (behind p))) (names_value blobs source (λ at. tell (BadPlaylist at)) playlist_of)
-    ∙ ap (λ (names : List (List ℕ)). design ∷ source ∷ names) (names_on blobs (title_made tell d p) last t is ∙ append-nil (names_read blobs (title_made tell d p)) ∙ title_read tell blobs d p t is)
+    let behind : Playlist → Reading Writing = λ p. title_made d p >>= last in
+    let whole : Design → Reading Writing = λ d. playlist_under source >>= λ p. title_made d p >>= last in
+    unhindered_names blobs (bytes_eq out design || bytes_eq out source) (SameName out) (design_under design >>= whole) differs
+    ∙ names_on blobs (design_under design) whole d (good_gives blobs design BadDesign design_of bytes d read good)
+    ∙ ap (λ (names : List (List ℕ)). names ++ names_read blobs (whole d)) (names_value blobs design BadDesign design_of)
+    ∙ ap (λ (names : List (List ℕ)). design ∷ names) (names_on blobs (playlist_under source) behind p (good_gives blobs source BadPlaylist playlist_of text p more also))
+    ∙ ap (λ (names : List (List ℕ)). design ∷ (names ++ names_read blobs (behind p))) (names_value blobs source BadPlaylist playlist_of)
+    ∙ ap (λ (names : List (List ℕ)). design ∷ source ∷ names) (names_on blobs (title_made d p) last t is ∙ append-nil (names_read blobs (title_made d p)) ∙ title_read blobs d p t is)
 
-nothing_read : (tell : Telling) (blobs : Blobs) (t : Title) (e : Enrolment) (licensee : List ℕ) → names_read blobs (packaged tell t e licensee) ≡ []
+nothing_read : (blobs : Blobs) (t : Title) (e : Enrolment) (licensee : List ℕ) → names_read blobs (packaged t e licensee) ≡ []
 unfolding packaged names_read ◌>>=◌
-nothing_read tell blobs t e licensee = by (fits t e) (serial_of (names_of e.licensees) licensee)
+nothing_read blobs t e licensee = by (fits t e) (serial_of (names_of e.licensees) licensee)
   where
     last : (serial : ℕ) (active : Bool) → names_read blobs (require active (Withdrawn licensee) >> Give (Exactly (licensed_text t e serial))) ≡ []
     last serial true = refl
     last serial false = refl
 
-    by : (same : Bool) (o : Option ℕ) → names_read blobs (require same (tell (Mismatch t.design.bits t.design.dimension e.bits e.dimension)) >> (found (Unknown licensee) o >>= λ serial. require (is_active e serial) (Withdrawn licensee) >> Give (Exactly (licensed_text t e serial)))) ≡ []
+    by : (same : Bool) (o : Option ℕ) → names_read blobs (require same (Mismatch t.design.bits t.design.dimension e.bits e.dimension) >> (found (Unknown licensee) o >>= λ serial. require (is_active e serial) (Withdrawn licensee) >> Give (Exactly (licensed_text t e serial)))) ≡ []
     by false o = refl
     by true None = refl
     by true (Some serial) = last serial (is_active e serial)
 
-pub playlist_names : (tell : Telling) (blobs : Blobs) (name register licensee out bytes text : List ℕ) (t : Title) (e : Enrolment) → (bytes_eq out name || bytes_eq out register) ≡ false
+pub playlist_names : (blobs : Blobs) (name register licensee out bytes text : List ℕ) (t : Title) (e : Enrolment) → (bytes_eq out name || bytes_eq out register) ≡ false
     → read_blob blobs name ≡ Ok bytes → title_of bytes ≡ Ok t → read_blob blobs register ≡ Ok text → register_of text ≡ Ok e
-    → names_read blobs (package_ tell name register licensee out) ≡ name ∷ register ∷ []
+    → names_read blobs (package_ name register licensee out) ≡ name ∷ register ∷ []
 unfolding package_ title_under register_under names_read
-playlist_names tell blobs name register licensee out bytes text t e differs read good more also =
-    let last : Enrolment → Reading Writing = λ e. packaged tell t e licensee in
-    let whole : Title → Reading Writing = λ t. register_under register >>= λ e. packaged tell t e licensee in
-    unhindered_names blobs (bytes_eq out name || bytes_eq out register) (SameName out) (title_under tell name >>= whole) differs
-    ∙ names_on blobs (title_under tell name) whole t (good_gives blobs name (λ at. tell (BadTitle at)) title_of bytes t read good)
-    ∙ ap (λ (names : List (List ℕ)). names ++ names_read blobs (whole t)) (names_value blobs name (λ at. tell (BadTitle at)) title_of)
+playlist_names blobs name register licensee out bytes text t e differs read good more also =
+    let last : Enrolment → Reading Writing = λ e. packaged t e licensee in
+    let whole : Title → Reading Writing = λ t. register_under register >>= λ e. packaged t e licensee in
+    unhindered_names blobs (bytes_eq out name || bytes_eq out register) (SameName out) (title_under name >>= whole) differs
+    ∙ names_on blobs (title_under name) whole t (good_gives blobs name BadTitle title_of bytes t read good)
+    ∙ ap (λ (names : List (List ℕ)). names ++ names_read blobs (whole t)) (names_value blobs name BadTitle title_of)
     ∙ ap (λ (names : List (List ℕ)). name ∷ names) (names_on blobs (register_under register) last e (good_gives blobs register BadRegister register_of text e more also))
     ∙ ap (λ (names : List (List ℕ)). name ∷ (names ++ names_read blobs (last e))) (names_value blobs register BadRegister register_of)
-    ∙ ap (λ (names : List (List ℕ)). name ∷ register ∷ names) (nothing_read tell blobs t e licensee)
+    ∙ ap (λ (names : List (List ℕ)). name ∷ register ∷ names) (nothing_read blobs t e licensee)

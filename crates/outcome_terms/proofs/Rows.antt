@@ -71,7 +71,7 @@ module _ (may : Status → Bool) where
   within_unbroken fault None next is h = h is
   within_unbroken fault (Some x) next is h = cc
 
-  register_within : (name : List ℕ) → AllowsReads may → ((f : RegisterFault) → may (fault_line (BadRegister f)).status ≡ true) → Within may (register_under name)
+  pub register_within : (name : List ℕ) → AllowsReads may → ((f : RegisterFault) → may (fault_line (BadRegister f)).status ≡ true) → Within may (register_under name)
   unfolding register_under
   register_within name reads h = within_then (blob name) (λ bytes. understood BadRegister (register_of bytes)) (within_blob name reads) (λ bytes. within_understood BadRegister (register_of bytes) h)
 

@@ -8,5 +8,11 @@ pub data Request : Type 0 where
   Enrol : (register name out : List ℕ) → Request
   -- withdraw the licensee of this name in the register, and write it to `out`
   Withdraw : (register name out : List ℕ) → Request
+  -- make the title of the design and the source from the variants that are held, and write it to `out`
+  MakeTitle : (design source out : List ℕ) → Request
+  -- make the playlist that the licensee of this name gets of the title, and write it to `out`
+  Package : (title register name out : List ℕ) → Request
+  -- report who agrees with the word of the copy, for coalitions of at most c
+  Trace : (title register copy : List ℕ) (c : ℕ) → Request
   -- report who agrees with the word, for coalitions of at most c
   Accuse : (register word : List ℕ) (c : ℕ) → Request

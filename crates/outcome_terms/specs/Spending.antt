@@ -3,15 +3,17 @@ use Rattle.std.specs.Prelude.{◌≡◌, ℕ, Option, Some, None, Result, Ok, Er
 use Rattle.shelf_terms.specs.Blobs.{Blobs}
 use Rattle.outcome_terms.specs.declared.refusal.Refusal.{Refusal}
 use Rattle.outcome_terms.specs.Reading.{Reading, given}
-use Rattle.outcome_terms.specs.Request.{Request, Accuse}
+use Rattle.outcome_terms.specs.Request.{Request, Trace as Traces, Accuse}
 use Rattle.outcome_terms.specs.Stores.{Store, Follows}
 use Rattle.outcome_terms.specs.Traces.{Trace, Counted, IsWithin}
 use Rattle.outcome_terms.specs.AccuseCommand.{accuse_trace}
+use Rattle.outcome_terms.specs.TraceCommand.{trace_trace}
 
 -- the trace that a command makes; one line a command that traces
-abbrev pub trace_of : Option Request → Option (Reading Trace)
-trace_of (Some (Accuse register word c)) = Some (accuse_trace register word c)
-trace_of request = None
+abbrev pub trace_made : Option Request → Option (Reading Trace)
+trace_made (Some (Traces title register copy c)) = Some (trace_trace title register copy c)
+trace_made (Some (Accuse register word c)) = Some (accuse_trace register word c)
+trace_made request = None
 
 -- Over every store: nothing is taken, or what one trace may take, where its register and word were read.
 pub data Spends (costs : Trace → ℕ → Type 0) (reading : Reading Trace) (s : Store) (old new : Counted) : Type 0 where

@@ -9,6 +9,7 @@ use Rattle.register_terms.specs.declared.refusal.RegisterError.{RegisterError}
 use Rattle.register_terms.specs.declared.refusal.RegisterError.TheVariants as rules
 use Rattle.register_terms.specs.declared.refusal.NameRefusal.{NameRefusal}
 use Rattle.register_terms.specs.declared.refusal.NameRefusal.TheVariants as names
+use Rattle.packaging_terms.specs.Details.{design_text, playlist_text, title_text, pair_text}
 use Rattle.outcome_terms.specs.declared.status.Status.{Status}
 use Rattle.outcome_terms.specs.declared.status.Status.TheVariants as status
 use Rattle.outcome_terms.specs.declared.fault.Fault.{Fault}
@@ -25,16 +26,22 @@ status_code status.ReadFault = 4
 status_code status.WriteFault = 5
 status_code status.OutFault = 6
 status_code status.TooLong = 7
+status_code status.BadDesign = 8
+status_code status.BadPlaylist = 9
+status_code status.BadTitle = 10
 status_code status.BadRegister = 11
+status_code status.Mismatch = 13
 status_code status.BadBound = 14
 status_code status.TooFew = 15
 status_code status.NameTaken = 16
 status_code status.BadName = 17
 status_code status.Full = 18
 status_code status.Unknown = 19
+status_code status.Duplicate = 20
 status_code status.SameName = 21
 status_code status.BadWord = 23
 status_code status.BadParameters = 24
+status_code status.NoSegment = 25
 status_code status.Withdrawn = 27
 
 -- how a line breaks the form of a register
@@ -78,15 +85,23 @@ name_line (names.Full licensees) = says status.Full (decimal licensees)
 
 -- what the words or the blobs are refused with
 abbrev pub fault_line : Fault → Line
+fault_line (fault.BadDesign broken) = says status.BadDesign (design_text broken)
+fault_line (fault.BadPlaylist at) = says status.BadPlaylist (decimal at.line ++ (codes " " ++ playlist_text at.fault))
+fault_line (fault.BadTitle at) = says status.BadTitle (decimal at.line ++ (codes " " ++ title_text at.kind))
 fault_line (fault.BadRegister at) = says status.BadRegister (decimal at.line ++ (codes " " ++ kind_text at.kind))
+fault_line (fault.Mismatch title_bits title_dimension register_bits register_dimension) =
+    says status.Mismatch (pair_text title_bits title_dimension ++ (codes " " ++ pair_text register_bits register_dimension))
 fault_line (fault.BadBound bound) = says status.BadBound (decimal bound)
-fault_line (fault.TooFew readable not_enough) = says status.TooFew (decimal readable ++ (codes " " ++ decimal not_enough))
+fault_line (fault.TooFew readable not_enough) = says status.TooFew (pair_text readable not_enough)
 fault_line (fault.NotEnrolled refusal) = name_line refusal
 fault_line (fault.Unknown name) = says status.Unknown name
 fault_line (fault.Withdrawn name) = says status.Withdrawn name
+fault_line (fault.Duplicate place symbol again_place again_symbol) =
+    says status.Duplicate (pair_text place symbol ++ (codes " " ++ pair_text again_place again_symbol))
 fault_line (fault.SameName name) = says status.SameName name
 fault_line (fault.BadWord at) = says status.BadWord (word_fault_text at)
 fault_line (fault.BadParameters broken) = says status.BadParameters (rule_text broken)
+fault_line (fault.NoSegment segment) = says status.NoSegment (decimal segment)
 
 abbrev pub refusal_line : Refusal → Line
 refusal_line refusal.Memory = says status.Memory (codes "memory")

@@ -2,9 +2,18 @@
 
 ghost use Rattle.std.specs.Prelude.{◌≡◌, List, ℕ, [], ◌∷◌, None, Some, Ok, Err, Result, codes};
 ghost use Rattle.shelf_terms.specs.Blobs.{Blobs};
+ghost use Rattle.form_terms.specs.Forms.{fault};
+ghost use Rattle.playlist_terms.specs.Reading.{at_line};
+ghost use Rattle.playlist_terms.specs.declared.fault.PlaylistFault.TheVariants.{NoUri, NoTarget};
+ghost use Rattle.title_terms.specs.declared.fault.TitleKind.TheVariants.{Form};
+ghost use Rattle.title_terms.specs.declared.fault.Key.TheVariants as keys;
+ghost use Rattle.title_terms.specs.declared.fault.DesignFault.TheVariants.{Missing, WrongType, TooWeak, BadMarked};
+ghost use Rattle.outcome_terms.specs.declared.fault.Fault.TheVariants.{BadDesign, BadPlaylist, BadTitle, Mismatch, Duplicate, NoSegment};
+ghost use Rattle.outcome_terms.specs.declared.status.Status.TheVariants as statuses;
+ghost use Rattle.outcome_terms.specs.Statuses.{fault_line, says};
 ghost use Rattle.outcome_terms.specs.declared.refusal.Refusal.{Refusal};
 ghost use Rattle.outcome_terms.specs.Commands.{request_of};
-ghost use Rattle.outcome_terms.specs.Request.{Accuse, Enrol, Make, Withdraw};
+ghost use Rattle.outcome_terms.specs.Request.{Accuse, Enrol, Make, MakeTitle, Package, Trace, Withdraw};
 ghost use Rattle.outcome_terms.specs.Reading.{Reading, given, ◌>>=◌ as ◌and_then◌};
 ghost use Rattle.outcome_terms.specs.Stores.{Answers, Follows, Store};
 
@@ -30,6 +39,12 @@ pub fn worked_examples()
         ≡ Some (Enrol (codes "r0") (codes "lic0") (codes "r1")) }
     ensures withdraw { request_of (codes "withdraw" ∷ codes "r0" ∷ codes "lic0" ∷ codes "r1" ∷ [])
         ≡ Some (Withdraw (codes "r0") (codes "lic0") (codes "r1")) }
+    ensures title { request_of (codes "title" ∷ codes "d" ∷ codes "s" ∷ codes "t" ∷ [])
+        ≡ Some (MakeTitle (codes "d") (codes "s") (codes "t")) }
+    ensures package { request_of (codes "package" ∷ codes "t" ∷ codes "reg" ∷ codes "lic0" ∷ codes "o" ∷ [])
+        ≡ Some (Package (codes "t") (codes "reg") (codes "lic0") (codes "o")) }
+    ensures trace { request_of (codes "trace" ∷ codes "t" ∷ codes "reg" ∷ codes "copy" ∷ codes "3" ∷ [])
+        ≡ Some (Trace (codes "t") (codes "reg") (codes "copy") 3) }
     ensures accuse { request_of (codes "accuse" ∷ codes "reg" ∷ codes "w" ∷ codes "3" ∷ [])
         ≡ Some (Accuse (codes "reg") (codes "w") 3) }
     ensures too_few { request_of (codes "accuse" ∷ codes "reg" ∷ codes "w" ∷ []) ≡ None }
@@ -37,6 +52,20 @@ pub fn worked_examples()
     ensures leading_zero { request_of (codes "accuse" ∷ codes "reg" ∷ codes "w" ∷ codes "03" ∷ []) ≡ None }
     ensures signed { request_of (codes "accuse" ∷ codes "reg" ∷ codes "w" ∷ codes "-" ∷ []) ≡ None }
     ensures broken_name { request_of (codes "enrol" ∷ codes "r0" ∷ codes "a\nb" ∷ codes "r1" ∷ []) ≡ None }
-    ensures unknown { request_of (codes "trace" ∷ codes "reg" ∷ codes "w" ∷ codes "3" ∷ []) ≡ None }
+    ensures unknown { request_of (codes "follow" ∷ codes "reg" ∷ codes "w" ∷ codes "3" ∷ []) ≡ None }
     ensures no_words { request_of [] ≡ None }
+{}
+
+/// What error lines say of designs, playlists and titles, of codes that do not fit, of equal variants and of marked numbers.
+pub fn worked_details()
+    ensures weak { fault_line (BadDesign TooWeak) ≡ says statuses.BadDesign (codes "too-weak") }
+    ensures missing { fault_line (BadDesign (Missing keys.M)) ≡ says statuses.BadDesign (codes "missing m") }
+    ensures wrong_type { fault_line (BadDesign (WrongType keys.Marked)) ≡ says statuses.BadDesign (codes "wrong-type marked") }
+    ensures marked { fault_line (BadDesign (BadMarked 1)) ≡ says statuses.BadDesign (codes "bad-marked 1") }
+    ensures uri { fault_line (BadPlaylist (at_line 3 NoUri)) ≡ says statuses.BadPlaylist (codes "3 no-uri") }
+    ensures target { fault_line (BadPlaylist (at_line 0 NoTarget)) ≡ says statuses.BadPlaylist (codes "0 no-target") }
+    ensures form { fault_line (BadTitle (fault 4 Form)) ≡ says statuses.BadTitle (codes "4 form") }
+    ensures mismatch { fault_line (Mismatch 4 2 4 3) ≡ says statuses.Mismatch (codes "4 2 4 3") }
+    ensures duplicate { fault_line (Duplicate 2 5 3 10) ≡ says statuses.Duplicate (codes "2 5 3 10") }
+    ensures segment { fault_line (NoSegment 12) ≡ says statuses.NoSegment (codes "12") }
 {}

@@ -8,7 +8,7 @@ mod refusal;
 mod status;
 
 pub use fault::Fault;
-pub use laws::{readings_compose, worked_examples};
+pub use laws::{readings_compose, worked_details, worked_examples};
 pub use packaging::{
     done_packaging, packages_end, packaging_reads, readings_go_along, titles_are_made, titles_end,
 };

@@ -21,9 +21,17 @@ pub enum Status {
     OutFault = 6,
     /// A blob is longer than 67,108,864 bytes.
     TooLong = 7,
+    /// The blob is no design.
+    BadDesign = 8,
+    /// The blob is no media playlist of the profile.
+    BadPlaylist = 9,
+    /// The blob is no title.
+    BadTitle = 10,
     /// The blob is no register.
     BadRegister = 11,
-    /// The codes of this register allow no trace with this bound.
+    /// The title and the register are of different codes.
+    Mismatch = 13,
+    /// The codes of this register, or the design of this title, allow no trace with this bound.
     BadBound = 14,
     /// Too few places of the word can be read.
     TooFew = 15,
@@ -35,12 +43,16 @@ pub enum Status {
     Full = 18,
     /// No licensee has the name.
     Unknown = 19,
+    /// Two variants have one digest.
+    Duplicate = 20,
     /// The blob to be written is one that the command reads.
     SameName = 21,
     /// The blob is no word.
     BadWord = 23,
     /// The numbers make no register.
     BadParameters = 24,
+    /// A marked number is that of no segment.
+    NoSegment = 25,
     /// The licensee is withdrawn.
     Withdrawn = 27,
 }

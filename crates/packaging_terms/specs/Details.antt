@@ -9,8 +9,6 @@ use Rattle.title_terms.specs.declared.fault.DesignFault.{DesignFault}
 use Rattle.title_terms.specs.declared.fault.DesignFault.TheVariants as design
 use Rattle.title_terms.specs.declared.fault.TitleKind.{TitleKind}
 use Rattle.title_terms.specs.declared.fault.TitleKind.TheVariants as title
-use Rattle.packaging_terms.specs.declared.fault.PackagingFault.{PackagingFault}
-use Rattle.packaging_terms.specs.declared.fault.PackagingFault.TheVariants as packaging
 
 abbrev pub key_text : Key → List ℕ
 key_text key.Name = codes "name"
@@ -56,24 +54,6 @@ title_text title.Form = codes "form"
 title_text title.Rule = codes "rule"
 title_text title.Duplicate = codes "duplicate"
 
+-- two numbers with a space between
 abbrev pub pair_text : ℕ → ℕ → List ℕ
 pair_text a b = decimal a ++ (codes " " ++ decimal b)
-
--- the detail of a fault
-abbrev pub packaging_detail : PackagingFault → List ℕ
-packaging_detail (packaging.BadDesign fault) = design_text fault
-packaging_detail (packaging.BadPlaylist at) = decimal at.line ++ (codes " " ++ playlist_text at.fault)
-packaging_detail (packaging.BadTitle at) = decimal at.line ++ (codes " " ++ title_text at.kind)
-packaging_detail (packaging.Mismatch title_bits title_dimension register_bits register_dimension) =
-    pair_text title_bits title_dimension ++ (codes " " ++ pair_text register_bits register_dimension)
-packaging_detail (packaging.Duplicate place symbol again_place again_symbol) = pair_text place symbol ++ (codes " " ++ pair_text again_place again_symbol)
-packaging_detail (packaging.NoSegment segment) = decimal segment
-
--- the number of the status
-abbrev pub packaging_status : PackagingFault → ℕ
-packaging_status (packaging.BadDesign fault) = 8
-packaging_status (packaging.BadPlaylist at) = 9
-packaging_status (packaging.BadTitle at) = 10
-packaging_status (packaging.Mismatch title_bits title_dimension register_bits register_dimension) = 13
-packaging_status (packaging.Duplicate place symbol again_place again_symbol) = 20
-packaging_status (packaging.NoSegment segment) = 25

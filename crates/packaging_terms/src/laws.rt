@@ -17,10 +17,8 @@ ghost use Rattle.title_terms.specs.declared.fault.DesignFault.TheVariants.{Missi
 ghost use Rattle.packaging_terms.specs.Licensees.{fits, place_of, symbol_at, licensed_list, licensed_text, whole_seconds, raised_target};
 ghost use Rattle.packaging_terms.specs.Making.{Hindrance, held_digest, twin, hindrance, made, title_with, HoldsVariant};
 ghost use Rattle.packaging_terms.specs.Variants.{unmarkable};
-ghost use Rattle.packaging_terms.specs.Details.{packaging_detail};
 ghost use Rattle.packaging_terms.specs.Pair.{twenty, list_of};
 ghost use Rattle.packaging_terms.specs.Film.{distributed, cinemas, first_variants};
-ghost use Rattle.packaging_terms.specs.declared.fault.PackagingFault.TheVariants.{BadDesign, BadPlaylist, BadTitle, Mismatch, Duplicate, NoSegment};
 
 /// What two licensees get of the small title, and how targets are raised.
 pub fn worked_examples()
@@ -43,20 +41,6 @@ pub fn worked_film()
     ensures target { whole_seconds 6006000 ≡ 6 }
     ensures last_marked { slice_get distributed.marked 31 ≡ Some 868 }
     ensures lines { length (playlist_lines (record { version = 3; target = 6; sequence = 0; segments = replicate 900 (segment 6006000 (codes "s.ts") false) })) ≡ 1806 }
-{}
-
-/// What error lines say behind the status.
-pub fn worked_details()
-    ensures weak { packaging_detail (BadDesign TooWeak) ≡ codes "too-weak" }
-    ensures missing { packaging_detail (BadDesign (Missing keys.M)) ≡ codes "missing m" }
-    ensures wrong_type { packaging_detail (BadDesign (WrongType keys.Marked)) ≡ codes "wrong-type marked" }
-    ensures marked { packaging_detail (BadDesign (BadMarked 1)) ≡ codes "bad-marked 1" }
-    ensures uri { packaging_detail (BadPlaylist (at_line 3 NoUri)) ≡ codes "3 no-uri" }
-    ensures target { packaging_detail (BadPlaylist (at_line 0 NoTarget)) ≡ codes "0 no-target" }
-    ensures form { packaging_detail (BadTitle (fault 4 Form)) ≡ codes "4 form" }
-    ensures mismatch { packaging_detail (Mismatch 4 2 4 3) ≡ codes "4 2 4 3" }
-    ensures duplicate { packaging_detail (Duplicate 2 5 3 10) ≡ codes "2 5 3 10" }
-    ensures segment { packaging_detail (NoSegment 12) ≡ codes "12" }
 {}
 
 /// The text that a licensee gets is read as the list that the licensee gets.

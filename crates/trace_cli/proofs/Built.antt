@@ -11,7 +11,7 @@ use Rattle.outcome_terms.specs.Reading.{given}
 use Rattle.outcome_terms.specs.Registers.{register_under}
 use Rattle.outcome_terms.specs.AccuseCommand.{allowed, word_under, accuse_trace}
 use Rattle.outcome_terms.specs.Traces.{Trace, Counted, IsWithin, trace_at}
-use Rattle.outcome_terms.specs.Spending.{TakesGiven, TakesAtMost, trace_of}
+use Rattle.outcome_terms.specs.Spending.{TakesGiven, TakesAtMost, trace_made}
 use Rattle.outcome_terms.proofs.Givens.{took, was_given}
 use Rattle.trace_commands.specs.Costs.{IsBuilt, built_costs, curve_costs}
 
@@ -35,7 +35,7 @@ module _ (cost : Params → ℕ) (built : IsBuilt cost) where
   given_built (Ok trace) old new few taken = within_built trace old new (few trace refl) taken
   given_built (Err e) old new few taken = taken
 
-  pub takes_built : (request : Option Request) (blobs : Blobs) (old new : Counted) → TakesAtMost (curve_costs cost) (trace_of request) blobs old new → TakesAtMost built_costs (trace_of request) blobs old new
+  pub takes_built : (request : Option Request) (blobs : Blobs) (old new : Counted) → TakesAtMost (curve_costs cost) (trace_made request) blobs old new → TakesAtMost built_costs (trace_made request) blobs old new
   takes_built (Some (Accuse register word c)) blobs old new taken =
       given_built (given blobs (accuse_trace register word c)) old new (λ trace is. few_readable blobs register word c trace is) taken
   takes_built _ blobs old new taken = tt

@@ -9,7 +9,7 @@ ghost use Rattle.outcome_terms.specs.Outcome.{Performs, is_free_status, outcome,
 ghost use Rattle.outcome_terms.specs.Output.{output};
 ghost use Rattle.outcome_terms.specs.Call.{Ends, GetsSoFar, HasEffect, IsRefused, KeepsOutput, SparesBlobs, StatusCauses, row};
 ghost use Rattle.command_io.specs.Answers.{left_text};
-ghost use Rattle.outcome_terms.specs.Spending.{SpendsAtMost, TakesAtMost, trace_of};
+ghost use Rattle.outcome_terms.specs.Spending.{SpendsAtMost, TakesAtMost, trace_made};
 ghost use Rattle.trace_commands.specs.Costs.{IsBuilt, built_costs, curve_costs};
 ghost use Rattle.trace_cli.specs.Headline.{Headline};
 
@@ -82,16 +82,16 @@ pub fn run<S: Shelf, O: Sink, I: Interpolate, P: Ledger, Q: Ledger>(
 
     // Whatever the status, a command that traces takes no more products and looks than one trace of the register and the word in
     // the two blobs may take, and none where it is refused before.
-    ensures steps { IfSome (S.holds shelf.old) (λ blobs. TakesAtMost (curve_costs I.cost) (trace_of (request_of (map string_bytes words.now))) blobs
+    ensures steps { IfSome (S.holds shelf.old) (λ blobs. TakesAtMost (curve_costs I.cost) (trace_made (request_of (map string_bytes words.now))) blobs
         (record { products = prods.old; looks = looks.old }) (record { products = prods.new; looks = looks.new })) }
 
     // Where curves are built point by point, these products are at most `iterative_product_bound`.
     ensures products_built { IsBuilt I.cost → IfSome (S.holds shelf.old) (λ blobs.
-        TakesAtMost built_costs (trace_of (request_of (map string_bytes words.now))) blobs
+        TakesAtMost built_costs (trace_made (request_of (map string_bytes words.now))) blobs
         (record { products = prods.old; looks = looks.old }) (record { products = prods.new; looks = looks.new })) }
 
     // Over every store: it takes none, or what one trace of a register and a word that it read may take.
-    ensures steps_untold { SpendsAtMost (curve_costs I.cost) (trace_of (request_of (map string_bytes words.now))) (store S.holds S.counts shelf.old)
+    ensures steps_untold { SpendsAtMost (curve_costs I.cost) (trace_made (request_of (map string_bytes words.now))) (store S.holds S.counts shelf.old)
         (record { products = prods.old; looks = looks.old }) (record { products = prods.new; looks = looks.new }) }
 
     // The whole: how the command was performed read by read, and how its answer was delivered.
@@ -114,7 +114,7 @@ fn perform<S: Shelf, I: Interpolate, P: Ledger, Q: Ledger>(
 ) -> Result<Done, Refusal>
     ensures performs { Performs (deed (request_of (map string_bytes words.now)))
         (store S.holds S.counts shelf.old) (store S.holds S.counts shelf.new) (left_text result) }
-    ensures steps { SpendsAtMost (curve_costs I.cost) (trace_of (request_of (map string_bytes words.now))) (store S.holds S.counts shelf.old)
+    ensures steps { SpendsAtMost (curve_costs I.cost) (trace_made (request_of (map string_bytes words.now))) (store S.holds S.counts shelf.old)
         (record { products = prods.old; looks = looks.old }) (record { products = prods.new; looks = looks.new }) }
 {
     let Some(command) = read_words(words) else {

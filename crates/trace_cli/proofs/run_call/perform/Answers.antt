@@ -6,7 +6,7 @@ use Rattle.outcome_terms.specs.RegisterCommand.{make}
 use Rattle.outcome_terms.specs.Stores.{Exactly, store}
 use Rattle.outcome_terms.specs.Commands.{deed, request_of}
 use Rattle.outcome_terms.specs.Outcome.{Performs}
-use Rattle.outcome_terms.specs.Spending.{SpendsAtMost, trace_of}
+use Rattle.outcome_terms.specs.Spending.{SpendsAtMost, trace_made}
 use Rattle.trace_commands.specs.Costs.{curve_costs}
 use Rattle.outcome_terms.proofs.Readings.{settled}
 use Rattle.command_io.specs.Answers.{left_text}
@@ -23,7 +23,7 @@ returns-in_ok-text-in-Register g c =
     record {
       performs = subst (λ (asked : Option Request). Performs (deed asked) old new (left_text c.write_text.result)) asked
           (c.write_text.ensures reading (Exactly text) old (settled reading old (Ok (Exactly text)) c.in_ok-text-in-Register.ensures) refl);
-      steps = subst (λ (asked : Option Request). SpendsAtMost (curve_costs g.I.Interpolate.cost) (trace_of asked) old (record { products = c.args.prods.now; looks = c.args.looks.now })
+      steps = subst (λ (asked : Option Request). SpendsAtMost (curve_costs g.I.Interpolate.cost) (trace_made asked) old (record { products = c.args.prods.now; looks = c.args.looks.now })
           (record { products = c.args.prods.now; looks = c.register_text.new.looks })) asked tt;
     }
 
@@ -31,12 +31,12 @@ pub returns-in_err-text-in-Accuse-clause-steps : goal.returns-in_err-text-in-Acc
 returns-in_err-text-in-Accuse-clause-steps g c =
     let asked : Some (Accuse c.in-Accuse.reg.now c.in-Accuse.word.now c.in-Accuse.c) ≡ request_of (map string_bytes c.args.words.now) =
     ap (λ command. Some (request command)) (sym c.in-Accuse.is) ∙ c.in-Some.ensures.asked in
-    subst (λ (asked : Option Request). SpendsAtMost (curve_costs g.I.Interpolate.cost) (trace_of asked) (store g.S.Shelf.holds g.S.Shelf.counts c.args.shelf.now)
+    subst (λ (asked : Option Request). SpendsAtMost (curve_costs g.I.Interpolate.cost) (trace_made asked) (store g.S.Shelf.holds g.S.Shelf.counts c.args.shelf.now)
     (record { products = c.args.prods.now; looks = c.args.looks.now }) (record { products = c.accuse.new.prods; looks = c.accuse.new.looks })) asked c.accuse.ensures.steps
 
 pub returns-in_ok-text-in-Accuse-clause-steps : goal.returns-in_ok-text-in-Accuse-clause-steps
 returns-in_ok-text-in-Accuse-clause-steps g c =
     let asked : Some (Accuse c.in-Accuse.reg.now c.in-Accuse.word.now c.in-Accuse.c) ≡ request_of (map string_bytes c.args.words.now) =
     ap (λ command. Some (request command)) (sym c.in-Accuse.is) ∙ c.in-Some.ensures.asked in
-    subst (λ (asked : Option Request). SpendsAtMost (curve_costs g.I.Interpolate.cost) (trace_of asked) (store g.S.Shelf.holds g.S.Shelf.counts c.args.shelf.now)
+    subst (λ (asked : Option Request). SpendsAtMost (curve_costs g.I.Interpolate.cost) (trace_made asked) (store g.S.Shelf.holds g.S.Shelf.counts c.args.shelf.now)
     (record { products = c.args.prods.now; looks = c.args.looks.now }) (record { products = c.accuse.new.prods; looks = c.accuse.new.looks })) asked c.accuse.ensures.steps

@@ -1,6 +1,6 @@
 use Rattle.std.proofs.Common.{refl}
 use Rattle.std.specs.Fmt.{digits}
-use Rattle.packaging_terms.proofs.laws.worked_details.Goals as goal
+use Rattle.outcome_terms.proofs.laws.worked_details.Goals as goal
 
 pub returns : goal.returns
 unfolding digits
