@@ -14,18 +14,19 @@ use Rattle.blob_digests.specs.declared.hashing.Hashing.{Hashing}
 abbrev pub Stands : Hashing → List ℕ → Type 0
 Stands hashing bytes = Holds256 hashing.hasher bytes
 
--- a blob of at most 64 MiB has the name, and this digest
-pub record HasDigest (blobs : Blobs) (name digest : List ℕ) : Type 0 where
+-- this is the digest of some bytes of at most 64 MiB; where the blobs are told they are the blob of the name
+pub record HasDigest (told : Option Blobs) (name digest : List ℕ) : Type 0 where
   pub blob : List ℕ
-  pub held : blob_at blobs name ≡ Some blob
+  pub held : IfSome told (λ blobs. blob_at blobs name ≡ Some blob)
   pub within : length blob ≤ BLOB_LIMIT
   pub is : digest ≡ sha256 blob
 
--- Where the blobs are told: the digest of the blob, or that it is too long, or that there is none.
+-- The digest of some bytes, which are the blob where the blobs are told; or, where they are told, that it is too long or that there
+-- is none.
 -- Each answer implies its own condition, and no two of the conditions stand together: so each comes exactly where its condition
 -- holds, no part failed and memory did not run out.
 abbrev pub DigestGives : Option Blobs → List ℕ → Result Digest FetchError → Type 0
-DigestGives told name (Ok digest) = IfSome told (λ blobs. HasDigest blobs name digest.bytes)
+DigestGives told name (Ok digest) = HasDigest told name digest.bytes
 DigestGives told name (Err fetch.TooLong) = IfSome told (λ blobs. HoldsLonger blobs name BLOB_LIMIT)
 DigestGives told name (Err fetch.Missing) = IfSome told (λ blobs. blob_at blobs name ≡ None)
 DigestGives told name (Err fetch.Fault) = ⊤

@@ -52,18 +52,29 @@ part_poured old now new told held name part piece from next most same pouring go
       long = omega (arith, length-append pouring.prefix part, pouring.long, counted);
     }
 
+-- a prefix with nothing behind it is the whole blob
+front_whole : (told held : Option Blobs) (name prefix part : List ℕ) (from most : ℕ) → held ≡ told → length prefix ≡ from → 1 ≤ most
+    → IfSome told (λ blobs. IsPrefixOf prefix blobs name) → IfSome held (λ blobs. HasPart blobs name from most part) → length part ≡ 0
+    → IfSome told (λ blobs. blob_at blobs name ≡ Some prefix)
+front_whole None held name prefix part from most same long some is got empty = tt
+front_whole (Some m) None name prefix part from most same long some is got empty = cc
+front_whole (Some m) (Some n) name prefix part from most same long some is got empty =
+    let one : n ≡ m = cc in
+    let held : blob_at m name ≡ Some got.blob = ap (λ b. blob_at b name) (sym one) ∙ got.held in
+    let short : length got.blob ≤ length prefix = omega (arith, length_part got.blob from most, ap length got.bytes, long) in
+    let whole : prefix ≡ got.blob = is ∙ ap (λ o. take (length prefix) (unwrap_or o [])) held ∙ take_all (length prefix) got.blob short in
+    held ∙ ap Some (sym whole)
+
 -- nothing behind the prefix
 pub whole_poured : (old new : List ℕ → Type 0) (told held : Option Blobs) (name part : List ℕ) (from most limit : ℕ) → held ≡ told → 1 ≤ most → from ≤ limit
     → IsPouring old new told name from → IfSome held (λ blobs. HasPart blobs name from most part) → length part ≡ 0
-    → IfSome told (λ blobs. HasPouredWhole old new blobs name limit)
-whole_poured old new None held name part from most limit same some within pouring got empty = tt
-whole_poured old new (Some m) None name part from most limit same some within pouring got empty = cc
-whole_poured old new (Some m) (Some n) name part from most limit same some within pouring got empty =
-    let one : n ≡ m = cc in
-    let held : blob_at m name ≡ Some got.blob = ap (λ b. blob_at b name) (sym one) ∙ got.held in
-    let short : length got.blob ≤ length pouring.prefix = omega (arith, length_part got.blob from most, ap length got.bytes, pouring.long) in
-    let whole : pouring.prefix ≡ got.blob = pouring.is ∙ ap (λ o. take (length pouring.prefix) (unwrap_or o [])) held ∙ take_all (length pouring.prefix) got.blob short in
-    record { blob = got.blob; held = held; within = omega (arith, ap length whole, pouring.long, within); adds = subst (Adds old new) whole pouring.adds }
+    → HasPouredWhole old new told name limit
+whole_poured old new told held name part from most limit same some within pouring got empty = record {
+  blob = pouring.prefix;
+  held = front_whole told held name pouring.prefix part from most same pouring.long some pouring.is got empty;
+  within = omega (arith, pouring.long, within);
+  adds = pouring.adds;
+}
 
 -- what a refusal leaves
 pub front_poured : (old new : List ℕ → Type 0) (told : Option Blobs) (name : List ℕ) (from : ℕ) → IsPouring old new told name from → HasPoured old new told name

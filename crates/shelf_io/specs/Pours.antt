@@ -20,17 +20,17 @@ pub record HasPoured (old new : List ℕ → Type 0) (told : Option Blobs) (name
   pub adds : Adds old new prefix
   pub is : IfSome told (λ blobs. IsPrefixOf prefix blobs name)
 
--- the whole blob came
-pub record HasPouredWhole (old new : List ℕ → Type 0) (blobs : Blobs) (name : List ℕ) (limit : ℕ) : Type 0 where
+-- some bytes came, no more than the limit; where the blobs are told they are the whole blob
+pub record HasPouredWhole (old new : List ℕ → Type 0) (told : Option Blobs) (name : List ℕ) (limit : ℕ) : Type 0 where
   pub blob : List ℕ
-  pub held : blob_at blobs name ≡ Some blob
+  pub held : IfSome told (λ blobs. blob_at blobs name ≡ Some blob)
   pub within : length blob ≤ limit
   pub adds : Adds old new blob
 
--- By the answer: where the blobs are told, the whole blob came, or it is too long, or there is none. After a refusal other than
--- want of memory a prefix of it came.
+-- By the answer: some bytes within the limit came, which are the whole blob where the blobs are told; or, where they are told, it
+-- is too long, or there is none. After a refusal other than want of memory a prefix of it came.
 abbrev pub PourGives : (List ℕ → Type 0) → (List ℕ → Type 0) → Option Blobs → List ℕ → ℕ → Result (Unit {0}) FetchError → Type 0
-PourGives old new told name limit (Ok _) = IfSome told (λ blobs. HasPouredWhole old new blobs name limit)
+PourGives old new told name limit (Ok _) = HasPouredWhole old new told name limit
 PourGives old new told name limit (Err fetch.Missing) = IfSome told (λ blobs. blob_at blobs name ≡ None) × HasPoured old new told name
 PourGives old new told name limit (Err fetch.TooLong) = IfSome told (λ blobs. HoldsLonger blobs name limit) × HasPoured old new told name
 PourGives old new told name limit (Err fetch.Fault) = HasPoured old new told name

@@ -94,6 +94,13 @@ impl Title {
         self.design.marked(place)
     }
 
+    /// The media playlist of which some segments are marked.
+    pub fn list(&self) -> &MediaList
+        ensures { result.now ≡ self.now.list }
+    {
+        &self.list
+    }
+
     /// The version of the protocol.
     pub fn version(&self) -> u32
         ensures { result ≡ self.now.list.version }
