@@ -10,58 +10,15 @@ ghost use Rattle.outcome_terms.specs.Words.{named as blob_name};
 ghost use Rattle.outcome_terms.specs.RegisterCommand.{make_from, make_of};
 ghost use Rattle.outcome_terms.specs.EnrolCommand.{enrol_of};
 ghost use Rattle.outcome_terms.specs.WithdrawCommand.{withdraw_of};
+ghost use Rattle.outcome_terms.specs.TitleCommand.{make_title_of};
+ghost use Rattle.outcome_terms.specs.PackageCommand.{package_of};
+ghost use Rattle.outcome_terms.specs.TraceCommand.{trace_of};
 ghost use Rattle.outcome_terms.specs.AccuseCommand.{accuse_of};
 ghost use Rattle.outcome_terms.specs.Commands.{request_of};
 ghost use Rattle.cli_words.specs.Requests.{request, HasNames};
 
+use crate::command::Command;
 use texts::{is_name, read_number};
-
-/// A command of the program with its arguments, which are borrowed from the words.
-///
-/// A number may be too large for the rule that it is tested by later, and is then refused by that rule.
-#[derive(Clone, Copy, Debug)]
-pub enum Command<'a> {
-    /// Writes a register without licensees.
-    Register {
-        /// Bits of a symbol.
-        m: u128,
-        /// Dimension of the code.
-        k: u128,
-        /// Multiplier of the serial.
-        a: u128,
-        /// Shift of the message.
-        b: u128,
-        /// Name of the blob to write.
-        out: &'a str,
-    },
-    /// Writes a register with one more licensee.
-    Enrol {
-        /// Name of the register's blob.
-        reg: &'a str,
-        /// Name of the licensee, as given.
-        name: &'a str,
-        /// Name of the blob to write.
-        out: &'a str,
-    },
-    /// Writes a register with a licensee withdrawn.
-    Withdraw {
-        /// Name of the register's blob.
-        reg: &'a str,
-        /// Name of the licensee, as given.
-        name: &'a str,
-        /// Name of the blob to write.
-        out: &'a str,
-    },
-    /// Reports whose codewords agree with a word.
-    Accuse {
-        /// Name of the register's blob.
-        reg: &'a str,
-        /// Name of the word's blob.
-        word: &'a str,
-        /// Size of the largest coalition to allow for.
-        c: u128,
-    },
-}
 
 /// The command that the words are. It takes no memory, and is `None` exactly where the words are no command.
 #[tactic(auto, unfolding(outcome_terms::specs::Commands::request_of))]
@@ -76,6 +33,12 @@ pub fn read_words<'a>(words: &'a [String]) -> Option<Command<'a>>
         enrol_words(arguments)
     } else if is_word(command, "withdraw") {
         withdraw_words(arguments)
+    } else if is_word(command, "title") {
+        title_words(arguments)
+    } else if is_word(command, "package") {
+        package_words(arguments)
+    } else if is_word(command, "trace") {
+        trace_words(arguments)
     } else if is_word(command, "accuse") {
         accuse_words(arguments)
     } else {
@@ -83,6 +46,7 @@ pub fn read_words<'a>(words: &'a [String]) -> Option<Command<'a>>
     }
 }
 
+/// Whether the word is this one.
 fn is_word(word: &String, name: &str) -> bool
     ensures { result ≡ bytes_eq (string_bytes word.now) name.now }
 {
@@ -98,12 +62,14 @@ fn named(word: &String) -> Option<&str>
     if is_name(text) { Some(text) } else { None }
 }
 
+/// The number that the word spells, if it spells one.
 fn number(word: &String) -> Option<u128>
     ensures { result ≡ number_of (string_bytes word.now) }
 {
     read_number(word.as_str())
 }
 
+/// The command `register` with these words.
 fn register_words<'a>(arguments: &'a [String]) -> Option<Command<'a>>
     ensures asked { option_map request result ≡ make_of (map string_bytes arguments.now) }
     ensures names { IfSome result HasNames }
@@ -114,6 +80,7 @@ fn register_words<'a>(arguments: &'a [String]) -> Option<Command<'a>>
     register_from(m, k, a, b, out)
 }
 
+/// The command `register` with five words.
 #[tactic(auto, unfolding(outcome_terms::specs::RegisterCommand::make_from))]
 fn register_from<'a>(
     m: &String,
@@ -134,6 +101,7 @@ fn register_from<'a>(
     Some(Command::Register { m, k, a, b, out })
 }
 
+/// The command `enrol` with these words.
 #[tactic(auto, unfolding(outcome_terms::specs::EnrolCommand::enrol_of))]
 fn enrol_words<'a>(arguments: &'a [String]) -> Option<Command<'a>>
     ensures asked { option_map request result ≡ enrol_of (map string_bytes arguments.now) }
@@ -148,6 +116,7 @@ fn enrol_words<'a>(arguments: &'a [String]) -> Option<Command<'a>>
     Some(Command::Enrol { reg, name, out })
 }
 
+/// The command `withdraw` with these words.
 #[tactic(auto, unfolding(outcome_terms::specs::WithdrawCommand::withdraw_of))]
 fn withdraw_words<'a>(arguments: &'a [String]) -> Option<Command<'a>>
     ensures asked { option_map request result ≡ withdraw_of (map string_bytes arguments.now) }
@@ -162,6 +131,68 @@ fn withdraw_words<'a>(arguments: &'a [String]) -> Option<Command<'a>>
     Some(Command::Withdraw { reg, name, out })
 }
 
+/// The command `title` with these words.
+#[tactic(auto, unfolding(outcome_terms::specs::TitleCommand::make_title_of))]
+fn title_words<'a>(arguments: &'a [String]) -> Option<Command<'a>>
+    ensures asked { option_map request result ≡ make_title_of (map string_bytes arguments.now) }
+    ensures names { IfSome result HasNames }
+{
+    let [design, source, out] = arguments else {
+        return None;
+    };
+    let design = named(design)?;
+    let source = named(source)?;
+    let out = named(out)?;
+    Some(Command::Title {
+        design,
+        source,
+        out,
+    })
+}
+
+/// The command `package` with these words.
+#[tactic(auto, unfolding(outcome_terms::specs::PackageCommand::package_of))]
+fn package_words<'a>(arguments: &'a [String]) -> Option<Command<'a>>
+    ensures asked { option_map request result ≡ package_of (map string_bytes arguments.now) }
+    ensures names { IfSome result HasNames }
+{
+    let [title, reg, name, out] = arguments else {
+        return None;
+    };
+    let title = named(title)?;
+    let reg = named(reg)?;
+    let name = named(name)?;
+    let out = named(out)?;
+    Some(Command::Package {
+        title,
+        reg,
+        name,
+        out,
+    })
+}
+
+/// The command `trace` with these words.
+#[tactic(auto, unfolding(outcome_terms::specs::TraceCommand::trace_of))]
+fn trace_words<'a>(arguments: &'a [String]) -> Option<Command<'a>>
+    ensures asked { option_map request result ≡ trace_of (map string_bytes arguments.now) }
+    ensures names { IfSome result HasNames }
+{
+    let [title, reg, copy, c] = arguments else {
+        return None;
+    };
+    let title = named(title)?;
+    let reg = named(reg)?;
+    let copy = named(copy)?;
+    let c = number(c)?;
+    Some(Command::Trace {
+        title,
+        reg,
+        copy,
+        c,
+    })
+}
+
+/// The command `accuse` with these words.
 #[tactic(auto, unfolding(outcome_terms::specs::AccuseCommand::accuse_of))]
 fn accuse_words<'a>(arguments: &'a [String]) -> Option<Command<'a>>
     ensures asked { option_map request result ≡ accuse_of (map string_bytes arguments.now) }
