@@ -3,7 +3,8 @@
 
 mod accuse_command;
 mod desk_call;
-mod report;
+mod reporting;
 mod word;
 
 pub use accuse_command::accuse;
+pub use reporting::report_on;

@@ -15,6 +15,6 @@ returns-in_err-word g c = record {
 pub returns : goal.returns
 unfolding accuse accuse_trace
 returns g c = record {
-  report = goes_on _ c.in_ok-register.ensures (settled_on _ _ c.in_ok-bound.ensures.bound (goes_on _ c.in_ok-word.ensures.word (settled _ _ _ c.report.ensures.report)));
-  steps = traced (goes_on _ c.in_ok-register.ensures (settled_on _ _ c.in_ok-bound.ensures.bound (goes_on _ c.in_ok-word.ensures.word gave))) c.report.ensures.steps;
+  report = goes_on _ c.in_ok-register.ensures (settled_on _ _ c.in_ok-bound.ensures.bound (goes_on _ c.in_ok-word.ensures.word (settled _ _ _ c.report_on.ensures.report)));
+  steps = traced (goes_on _ c.in_ok-register.ensures (settled_on _ _ c.in_ok-bound.ensures.bound (goes_on _ c.in_ok-word.ensures.word gave))) c.report_on.ensures.steps;
 }

@@ -1,0 +1,12 @@
+//! Reports: written as JSON, and read again.
+#![tactic(auto)]
+
+mod errors;
+mod reading;
+#[cfg(test)]
+mod tests;
+mod writing;
+
+pub use errors::ReportError;
+pub use reading::report_read;
+pub use writing::report_text;
