@@ -1,0 +1,4 @@
+pub mod Marks
+pub mod Targets
+pub mod Segments
+pub mod Words
