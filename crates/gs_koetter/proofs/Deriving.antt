@@ -1,22 +1,23 @@
 -- Derivatives of a curve from its table.
-use Rattle.std.proofs.Common.{◌≡◌, ◌⊎◌, inl, inr, ℕ, zero, suc, ◌+◌, ◌*◌, ◌<◌, ◌≤◌, List, length, take, Option, None, Some, get_or, refl, ◌∙◌, sym, ap, subst, arith}
+use Rattle.std.proofs.Common.{◌≡◌, ◌⊎◌, inl, inr, ℕ, zero, suc, ◌+◌, ◌*◌, ◌^◌, ◌<◌, ◌≤◌, List, length, take, Option, None, Some, get_or, refl, ◌∙◌, sym, ap, subst, arith}
 use Rattle.std.proofs.lemmas.Bool.{cases_lt}
 use Rattle.std.proofs.lemmas.List.{get_or-take, get_or_default, get_or_past}
 use Rattle.algebra.specs.Lists.{coefficients}
 use Rattle.algebra.specs.Ring.{Ring}
 use Rattle.algebra.specs.Roots.{total}
-use Rattle.bi_poly.specs.Rows.{ArePowers}
+use Rattle.gs_koetter.proofs.Laying.{cell_inside}
+use Rattle.gs_koetter.proofs.Splitting.{past_rows}
 use Rattle.decoding_terms.specs.Parameters.{term_count}
 use Rattle.koetter_terms.specs.Curves.{IsTile, curve}
 use Rattle.koetter_terms.specs.Derivatives.{derivative, derivative_at}
 use Rattle.koetter_terms.specs.State.{Conditions, Handled}
-use Rattle.koetter_terms.proofs.Derivatives.{derivative_same}
+use Rattle.koetter_terms.proofs.Derivatives.{derivative_more, derivative_same}
 use Rattle.koetter_terms.proofs.Orders.{handled_point}
 use Rattle.term_lists.specs.Places.{place}
 use Rattle.gs_koetter.specs.declared.curve.Curve.{Curve}
 use Rattle.gs_koetter.specs.Shapes.{HaveShape, IsEnded, slot}
 use Rattle.gs_koetter.specs.States.{AreDerived, IsBare, IsDerived, IsState, spent}
-use Rattle.gs_koetter.specs.Tables.{entry}
+use Rattle.gs_koetter.specs.Tables.{AreSquares, entry}
 use Rattle.gs_koetter.proofs.Prefixes.{take_length}
 use Rattle.gs_koetter.proofs.Pivots.{not_some, one_some}
 
@@ -34,13 +35,25 @@ module _ {F : Type 0} (R : Ring F) where
       by_order (inl less) = get_or-take c.len c.coefs.items k nil less
       by_order (inr most) = get_or_past (take c.len c.coefs.items) k nil (omega (arith, take_length c.len c.coefs.items end.inside, most)) ∙ sym (end.rest k most)
 
-  pub derived_tile : (e n s : ℕ) (q : ℕ → ℕ → F) (a b : F) (tile table : List F) (m k : ℕ) → m ≡ e → k ≡ n → ((i j : ℕ) → i < e → j < n → entry R n table i j ≡ q i j)
-      → IsTile R m k s (entry R k table) a b tile → IsTile R e n s q a b tile
-  derived_tile e n s q a b tile table m k same_m same_k same is u v l =
-      let there : IsTile R e n s (entry R n table) a b tile = subst (λ x. IsTile R x n s (entry R n table) a b tile) same_m (subst (λ y. IsTile R m y s (entry R y table) a b tile) same_k is) in
-      there u v l
-      ∙ derivative_same R n (λ j. derivative R e (λ i. entry R n table i j) a u) (λ j. derivative R e (λ i. q i j) a u) b v
-      (λ j h. derivative_same R e (λ i. entry R n table i j) (λ i. q i j) a u (λ i g. same i j g h))
+  -- the derivatives from a table of the coefficients, by that of the derivatives in x and the same turned
+  pub derived_tile : (w e n s p q : ℕ) (coefs table folded turned square tile : List F) (a b : F) → e ≤ 2 ^ p → n ≤ 2 ^ q → length table ≡ e * n → length turned ≡ n * s
+      → ((i j : ℕ) → i < e → j < n → entry R n table i j ≡ curve R w coefs i j)
+      → ((u j : ℕ) → j < n → u * n + j < s * n → entry R n folded u j ≡ derivative R (2 ^ p) (λ i. entry R n table i j) a u)
+      → ((u j : ℕ) → u < s → j < n → entry R s turned j u ≡ entry R n folded u j)
+      → ((v u : ℕ) → u < s → v * s + u < s * s → entry R s square v u ≡ derivative R (2 ^ q) (λ j. entry R s turned j u) b v)
+      → ((u v : ℕ) → u + v < s → curve R 1 tile u v ≡ entry R s square v u) → IsTile R e n s (curve R w coefs) a b tile
+  derived_tile w e n s p q coefs table folded turned square tile a b tall wide table_long turned_long laid in_x turn in_y picked u v l =
+      let u_in : u < s = omega (arith, l) in
+      let v_in : v < s = omega (arith, l) in
+      picked u v l
+      ∙ in_y v u u_in (cell_inside s s v u v_in u_in)
+      ∙ sym (derivative_more R n (2 ^ q) (λ j. entry R s turned j u) b v wide (past_rows R n s u turned (omega (arith, turned_long))))
+      ∙ derivative_same R n (λ j. entry R s turned j u) (λ j. derivative R e (λ i. curve R w coefs i j) a u) b v
+      (λ j m.
+          turn u j u_in m
+          ∙ in_x u j m (cell_inside s n u j u_in m)
+          ∙ sym (derivative_more R e (2 ^ p) (λ i. entry R n table i j) a u tall (past_rows R e n j table (omega (arith, table_long))))
+          ∙ derivative_same R e (λ i. entry R n table i j) (λ i. curve R w coefs i j) a u (λ i k. laid i j k m))
 
   -- with the derivatives of all curves the state at a point is whole
   module _ (w e n s : ℕ) (xs ys : List F) (old new : List (Option (Curve F))) (derived : (j : ℕ) → AreDerived R w e n s xs ys (slot old j) (slot new j)) where
@@ -63,7 +76,7 @@ module _ {F : Type 0} (R : Ring F) where
           ends = λ k l. ap (λ t. coefficients R t k) is.coefs ∙ whole.ends k (subst (λ x. place w x j < k) is.exponent l);
         }
 
-    pub state_derived : (met : Conditions F) (a b : F) (handled : ℕ) → ArePowers R a xs → ArePowers R b ys → IsBare R w e n met handled old → IsState R w e n s met a b handled new
+    pub state_derived : (met : Conditions F) (a b : F) (handled : ℕ) → AreSquares R a xs → AreSquares R b ys → IsBare R w e n met handled old → IsState R w e n s met a b handled new
     state_derived met a b handled a_powers b_powers bare = record {
       kept = λ j c there.
           let was = before j c (slot old j) (slot new j) (derived j) there in

@@ -16,7 +16,7 @@ use Rattle.algebra.proofs.RingLaws.{ring}
 use Rattle.algebra.proofs.Sums.{sum_exchange, sum_same, sum_scaled}
 use Rattle.decoding_terms.specs.Parameters.{equation_count, term_count}
 use Rattle.decoding_terms.proofs.Terms.{many}
-use Rattle.term_lists.proofs.Orders.{orders_count}
+use Rattle.term_lists.proofs.Orders.{orders_count, triangle}
 use Rattle.algebra.specs.Roots.{total}
 use Rattle.gs_koetter.proofs.Ending.{terms_by_power}
 use Rattle.koetter_terms.specs.Curves.{curve}
@@ -156,13 +156,19 @@ rectangle w e n some positive all light =
     omega (arith, twice, counted, less, square)
 
 -- the products of one point
-point_bound : (e n s t terms : ℕ) → 1 ≤ t → 1 ≤ n → s ≤ t → e ≤ terms → n ≤ terms → e * n + n ≤ 2 * terms → t + 1 ≤ terms
-    → e + n + n * (s * (e * n) + t * n) + t * (1 + terms + n * (1 + terms + t)) ≤ 8 * (t * (n * terms))
-point_bound e n s t terms some_t some_n few low short twice small =
-    let a : s * (e * n) ≤ t * (e * n) = mul-le-mul_right (e * n) few in
+point_bound : (e n s t terms : ℕ) → 1 ≤ e → 1 ≤ t → 1 ≤ n → s ≤ t → e ≤ terms → n ≤ terms → e * n + n ≤ 2 * terms → t + 1 ≤ terms
+    → 2 * t ≡ s * (s + 1) → e + n + n * (s * (e * n) + s * (n * s)) + t * (1 + terms + n * (1 + terms + t)) ≤ 8 * (t * (n * terms))
+point_bound e n s t terms some_e some_t some_n few low short twice small square =
+    let more : ℕ = t - s in
+    let split : t ≡ s + more = omega (arith, few) in
+    let wide : t * (e * n) ≡ (s + more) * (e * n) = ap (λ k. k * (e * n)) split in
+    let low_rows : t * n ≡ (s + more) * n = ap (λ k. k * n) split in
+    let row : 1 * n ≤ e * n = mul-le-mul_right n some_e in
+    let a : more * (1 * n) ≤ more * (e * n) = mul-le-mul_left more row in
+    let both : 2 * t * n ≡ s * (s + 1) * n = ap (λ k. k * n) square in
     let b : t * (e * n + n) ≤ t * (2 * terms) = mul-le-mul_left t twice in
-    let inner : s * (e * n) + t * n ≤ t * (2 * terms) = omega (arith, a, b) in
-    let c : n * (s * (e * n) + t * n) ≤ n * (t * (2 * terms)) = mul-le-mul_left n inner in
+    let inner : s * (e * n) + s * (n * s) ≤ t * (2 * terms) = omega (arith, wide, low_rows, a, both, b) in
+    let c : n * (s * (e * n) + s * (n * s)) ≤ n * (t * (2 * terms)) = mul-le-mul_left n inner in
     let d : n * (1 + terms + t) ≤ n * (2 * terms) = mul-le-mul_left n (omega (arith, small)) in
     let f : t * (1 + terms + n * (1 + terms + t)) ≤ t * (2 * terms + n * (2 * terms)) = mul-le-mul_left t (omega (arith, d, small)) in
     let g : 1 * terms ≤ n * terms = mul-le-mul_right terms some_n in
@@ -172,7 +178,7 @@ point_bound e n s t terms some_t some_n few low short twice small =
 
 -- the products of all points
 pub all_products : (r s w e n rows cols old new : ℕ) → 1 ≤ w → 1 ≤ r → 1 ≤ s → 1 ≤ e → n ≡ (e - 1) / w + 1 → rows ≡ equation_count r s → cols ≡ term_count w e → rows < term_count w e
-    → new ≤ old + r * (e + n + n * (s * (e * n) + term_count 1 s * n) + term_count 1 s * (1 + term_count w e + n * (1 + term_count w e + term_count 1 s)))
+    → new ≤ old + r * (e + n + n * (s * (e * n) + s * (n * s)) + term_count 1 s * (1 + term_count w e + n * (1 + term_count w e + term_count 1 s)))
     → new ≤ old + 8 * rows * ((e - 1) / w + 1) * cols
 all_products r s w e n rows cols old new some_w some_r some_s some_e n_is rows_is cols_is less spent =
     let t : ℕ = term_count 1 s in
@@ -184,8 +190,8 @@ all_products r s w e n rows cols old new some_w some_r some_s some_e n_is rows_i
     let short : n ≤ e = subst (λ k. k ≤ e) (sym n_is) (powers_few w e some_w some_e) in
     let low : e ≤ term_count w e = many w e some_w in
     let positive : 1 ≤ n = omega (arith, n_is) in
-    let one = point_bound e n s t (term_count w e) (omega (arith, few, some_s)) positive few low (omega (arith, short, low)) (rectangle w e n some_w positive enough light) (omega (arith, once, each, less)) in
-    let all : r * (e + n + n * (s * (e * n) + t * n) + t * (1 + term_count w e + n * (1 + term_count w e + t))) ≤ r * (8 * (t * (n * term_count w e))) = mul-le-mul_left r one in
+    let one = point_bound e n s t (term_count w e) some_e (omega (arith, few, some_s)) positive few low (omega (arith, short, low)) (rectangle w e n some_w positive enough light) (omega (arith, once, each, less)) (triangle s) in
+    let all : r * (e + n + n * (s * (e * n) + s * (n * s)) + t * (1 + term_count w e + n * (1 + term_count w e + t))) ≤ r * (8 * (t * (n * term_count w e))) = mul-le-mul_left r one in
     let whole : r * (8 * (t * (n * term_count w e))) ≡ 8 * (r * t) * n * term_count w e = omega arith in
     let named : 8 * (r * t) * n * term_count w e ≡ 8 * rows * ((e - 1) / w + 1) * cols =
     ap (λ k. 8 * k * n * term_count w e) each ∙ ap (λ k. 8 * rows * k * term_count w e) n_is ∙ ap (λ k. 8 * rows * ((e - 1) / w + 1) * k) (sym cols_is) in

@@ -1,27 +1,17 @@
--- Coefficients that are laid out in a table, and derivatives of its columns.
-use Rattle.std.proofs.Common.{◌≡◌, ◌≢◌, ◌⊎◌, inl, inr, ℕ, suc, ◌+◌, ◌-◌, ◌*◌, ◌/◌, ◌<◌, ◌≤◌, List, length, set, get_or, take, drop, ◌∙◌, sym, ap, ap₂, subst, arith}
+-- Coefficients that are laid out in a table.
+use Rattle.std.proofs.Common.{◌≡◌, ◌≢◌, ◌⊎◌, inl, inr, ℕ, suc, ◌+◌, ◌*◌, ◌<◌, ◌≤◌, List, length, set, get_or, ◌∙◌, sym, ap, ap₂, subst, arith}
 use Rattle.std.proofs.lemmas.Bool.{cases_lt}
 use Rattle.std.proofs.lemmas.Bool.Decides.{eqb_tells}
-use Rattle.std.proofs.lemmas.List.{get_or_default, get_or-drop, get_or-set_other, get_or-set_same, get_or-take, length-drop}
-use Rattle.std.proofs.Math.Nat.{mul-le-mul, mul-le-mul_left, mul-le-mul_right}
-use Rattle.algebra.specs.Bivariate.{weight}
+use Rattle.std.proofs.lemmas.List.{get_or_default, get_or-set_other, get_or-set_same}
+use Rattle.std.proofs.Math.Nat.{mul-le-mul_left, mul-le-mul_right}
 use Rattle.algebra.specs.Lists.{coefficients}
 use Rattle.algebra.specs.Ring.{Ring}
-use Rattle.algebra.specs.Roots.{total}
 use Rattle.algebra.proofs.CoefficientLists.{coefficients_below}
-use Rattle.algebra.proofs.Sums.{sum_last, sum_none}
-use Rattle.algebra.proofs.RingLaws.{ring}
-use Rattle.decoding_terms.specs.Parameters.{term_count}
-use Rattle.decoding_terms.proofs.Terms.{term_count-next}
-use Rattle.term_lists.proofs.Orders.{triangle}
-use Rattle.koetter_terms.specs.Curves.{IsSum, curve}
-use Rattle.koetter_terms.specs.Derivatives.{derivative, derivative_at}
-use Rattle.koetter_terms.proofs.Derivatives.{derivative_is, derivative_same}
+use Rattle.koetter_terms.specs.Curves.{curve}
 use Rattle.koetter_terms.proofs.Places.{place_same}
 use Rattle.term_lists.specs.declared.exponents.Exponents.{Exponents}
 use Rattle.term_lists.specs.Places.{AreTermsBelow, exponents_at, place}
-use Rattle.gs_koetter.proofs.Prefixes.{take_length}
-use Rattle.gs_koetter.specs.Tables.{IsFolded, entry}
+use Rattle.gs_koetter.specs.Tables.{entry}
 
 -- different rows or columns are different cells
 pub cell_same : (width i j a b : ℕ) → j < width → b < width → i * width + j ≡ a * width + b → (i ≡ a) × (j ≡ b)
@@ -99,84 +89,3 @@ module _ {F : Type 0} (R : Ring F) where
       by_order : (place w i j < k) ⊎ (k ≤ place w i j) → entry R width table i j ≡ curve R w coefs i j
       by_order (inl less) = laid.before i j l m less
       by_order (inr past) = laid.from i j l m past ∙ sym (coefficients_below R coefs (place w i j) (omega (arith, most, past)))
-
-  -- the derivative of one term more
-  pub derivative_next : (n : ℕ) (p : ℕ → F) (a : F) (u : ℕ) → derivative R (n + 1) p a u ≡ derivative R n p a u ⊕ p n ⊗ weight R a n u
-  derivative_next n p a u =
-      let one : n + 1 ≡ suc n = omega arith in
-      ap (λ m. derivative R m p a u) one
-      ∙ derivative_is R (suc n) p a u
-      ∙ sum_last R n (λ i. p i ⊗ weight R a i u)
-      ∙ ap (λ t. t ⊕ p n ⊗ weight R a n u) (sym (derivative_is R n p a u))
-
-  pub derivative_none : (p : ℕ → F) (a : F) (u : ℕ) → derivative R 0 p a u ≡ nil
-  derivative_none p a u = derivative_is R 0 p a u ∙ sum_none R (λ i. p i ⊗ weight R a i u)
-
-  -- a row of the table
-  pub row_entry : (width i j : ℕ) (table : List F) → j < width → coefficients R (take width (drop (i * width) table)) j ≡ entry R width table i j
-  row_entry width i j table l = get_or-take width (drop (i * width) table) j nil l ∙ get_or-drop (i * width) table j nil
-
-  -- a row of the table, as it is cut out
-  pub cut_entry : (width long i j : ℕ) (table : List F) → long ≡ width → j < width → coefficients R (take (i * long + long - i * long) (drop (i * long) table)) j ≡ entry R width table i j
-  cut_entry width long i j table is l =
-      let inside : j < i * long + long - i * long = omega (arith, is, l) in
-      get_or-take (i * long + long - i * long) (drop (i * long) table) j nil inside ∙ get_or-drop (i * long) table j nil ∙ ap (λ n. coefficients R table (i * n + j)) is
-
-  pub cut_length : (width long height i : ℕ) (table : List F) → long ≡ width → length table ≡ height * width → i < height → length (take (i * long + long - i * long) (drop (i * long) table)) ≡ width
-  cut_length width long height i table is whole l =
-      let more : suc i * width ≤ height * width = mul-le-mul_right width l in
-      let here : i * long ≡ i * width = ap (λ n. i * n) is in
-      let rest : length (drop (i * long) table) ≡ length table - i * long = length-drop (i * long) table in
-      take_length (i * long + long - i * long) (drop (i * long) table) (omega (arith, more, here, rest, whole, is)) ∙ omega (arith, is)
-
-  -- a row of derivatives in x gives those in x and y
-  pub column_is : (m n width : ℕ) (table row : List F) (a b : F) (u v : ℕ) → length row ≡ n → width ≡ n → IsFolded R width m table a u row → derivative R (length row) (coefficients R row) b v ≡ derivative_at R m n (entry R n table) a b u v
-  column_is m n width table row a b u v long same folded =
-      ap (λ k. derivative R k (coefficients R row) b v) long
-      ∙ derivative_same R n (coefficients R row) (λ j. derivative R m (λ i. entry R n table i j) a u) b v
-      (λ j l. folded j (omega (arith, l, same)) ∙ ap (λ k. derivative R m (λ i. entry R k table i j) a u) same)
-
-  -- with the factor zero nothing is added
-  pub zero_added : (x : F) (source xs : List F) → x ≡ nil → IsSum R x source xs xs
-  zero_added x source xs none k = sym (ap (λ t. coefficients R xs k ⊕ t ⊗ coefficients R source k) none ∙ simp ring)
-
-  -- a value put at the place of an order
-  pub put_order : (u v : ℕ) (tile : List F) (value : F) → place 1 u v < length tile → curve R 1 (set tile (place 1 u v) value) u v ≡ value
-  put_order u v tile value l = get_or-set_same tile (place 1 u v) value nil l
-
-  pub put_beside : (u v h k : ℕ) (tile : List F) (value : F) → ((h ≡ u) × (k ≡ v) → ⊥) → curve R 1 (set tile (place 1 u v) value) h k ≡ curve R 1 tile h k
-  put_beside u v h k tile value apart = get_or-set_other tile (place 1 u v) (place 1 h k) value nil (λ same. apart (place_same 1 (omega arith) h k u v same))
-
--- the place of the next order in y, and of the first of the next in x
-pub place_right : (u v : ℕ) → place 1 u v + (u + v + 2) ≡ place 1 u (v + 1)
-place_right u v =
-    let next = term_count-next 1 (u + 1 * v) (omega arith) in
-    let whole : (u + 1 * v) / 1 ≡ u + v = omega arith in
-    let is : u + 1 * v + 1 ≡ u + 1 * (v + 1) = omega arith in
-    let same : term_count 1 (u + 1 * v + 1) ≡ term_count 1 (u + 1 * (v + 1)) = ap (term_count 1) is in
-    omega (arith, next, whole, same)
-
-pub place_down : (u : ℕ) → place 1 u 0 + (u + 1) ≡ place 1 (u + 1) 0
-place_down u =
-    let next = term_count-next 1 (u + 1 * 0) (omega arith) in
-    let whole : (u + 1 * 0) / 1 ≡ u = omega arith in
-    let is : u + 1 * 0 + 1 ≡ u + 1 + 1 * 0 = omega arith in
-    let same : term_count 1 (u + 1 * 0 + 1) ≡ term_count 1 (u + 1 + 1 * 0) = ap (term_count 1) is in
-    omega (arith, next, whole, same)
-
--- there are not many orders
-pub few_orders : (side : ℕ) → side ≤ 4096 → term_count 1 side ≤ 16777216
-few_orders side l =
-    let twice = triangle side in
-    let square : side * (side + 1) ≤ 4096 * 4097 = mul-le-mul {n₂ = 4096} {m₂ = 4097} l (omega (arith, l)) in
-    omega (arith, twice, square)
-
--- the products of the first orders in x, and of one more
-pub tile_products : (old p f c u x y side long : ℕ) → long ≡ y → p ≤ old + (u * (x * y) + total u (λ h. side - 1 * h) * y) → f ≤ p + x * long → c ≤ f + (side - u) * long
-    → c ≤ old + ((u + 1) * (x * y) + total (u + 1) (λ h. side - 1 * h) * y)
-tile_products old p f c u x y side long same before fold column =
-    let one : u + 1 ≡ suc u = omega arith in
-    let split : total (u + 1) (λ h. side - 1 * h) * y ≡ ((side - 1 * u) + total u (λ h. side - 1 * h)) * y = ap (λ n. total n (λ h. side - 1 * h) * y) one in
-    let row : x * long ≡ x * y = ap (λ n. x * n) same in
-    let cells : (side - u) * long ≡ (side - 1 * u) * y = let here : side - u ≡ side - 1 * u = omega arith in ap₂ (λ m n. m * n) here same in
-    omega (arith, before, fold, column, split, row, cells)

@@ -6,6 +6,8 @@ pub mod States
 pub mod Raised
 pub mod Stepping
 pub mod Laying
+pub mod Halves
+pub mod Splitting
 pub mod Deriving
 pub mod Beginning
 pub mod Ending

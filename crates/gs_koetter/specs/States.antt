@@ -4,13 +4,14 @@ use Rattle.std.specs.Prelude.{◌≡◌, ◌≢◌, ℕ, ◌+◌, ◌-◌, ◌*�
 use Rattle.algebra.specs.Ring.{Ring}
 use Rattle.algebra.specs.Roots.{total}
 use Rattle.decoding_terms.specs.Parameters.{term_count}
-use Rattle.bi_poly.specs.Rows.{ArePowers}
 use Rattle.koetter_terms.specs.Curves.{IsTile, curve}
 use Rattle.koetter_terms.specs.Derivatives.{derivative_at}
 use Rattle.koetter_terms.specs.State.{Conditions, IsKept}
 use Rattle.gs_koetter.specs.declared.curve.Curve.{Curve}
 use Rattle.gs_koetter.specs.declared.points.Scratch.{Scratch}
+use Rattle.gs_koetter.specs.declared.frame.Frame.{Frame}
 use Rattle.gs_koetter.specs.Shapes.{slot}
+use Rattle.gs_koetter.specs.Tables.{AreSquares}
 
 -- the power of x in the leading term of the curve at j, and what that power has come to where the curve was dropped
 abbrev pub spent : {F : Type 0} → ℕ → ℕ → ℕ → Option (Curve F) → ℕ
@@ -23,29 +24,29 @@ step_products w e s count = 1 + term_count w e + count * (1 + term_count w e + t
 
 -- how many products the derivatives of one curve at a point may take, and how many all of a point
 abbrev pub derive_products : ℕ → ℕ → ℕ → ℕ
-derive_products e n s = s * (e * n) + term_count 1 s * n
+derive_products e n s = s * (e * n) + s * (n * s)
 
 abbrev pub point_products : ℕ → ℕ → ℕ → ℕ → ℕ
 point_products w e n s = e + n + n * derive_products e n s + term_count 1 s * step_products w e s n
 
--- room for the powers of x below e and the first n powers of y, for a table of both, and for one of its rows
-pub record IsScratch {F : Type 0} (e n : ℕ) (scratch : Scratch F) : Type 0 where
-  pub xs : length scratch.xs.items ≡ e
-  pub ys : length scratch.ys.items ≡ n
-  pub table : length scratch.table.items ≡ e * n
-  pub row : length scratch.row.items ≡ n
+-- room for the squares of a point's coordinates, for a table of all powers of x and y, and for its derivatives turned
+pub record IsScratch {F : Type 0} (frame : Frame) (scratch : Scratch F) : Type 0 where
+  pub xs : length scratch.xs.items ≡ frame.xs.count
+  pub ys : length scratch.ys.items ≡ frame.ys.count
+  pub table : length scratch.table.items ≡ frame.terms.e * frame.width
+  pub turned : length scratch.turned.items ≡ frame.width * frame.orders.e
 
 module _ {F : Type 0} (R : Ring F) where
   abbrev pub point_at : List (F × F) → ℕ → F × F
   point_at points i = slice_index_or points i (R.nil, R.nil)
 
-  -- the same curve, with its derivatives at the point to whose coordinates these powers belong
+  -- the same curve, with its derivatives at the point to whose coordinates these squares belong
   pub record IsDerived (w e n s : ℕ) (xs ys : List F) (old new : Curve F) : Type 0 where
     pub coefs : new.coefs.items ≡ old.coefs.items
     pub len : new.len ≡ old.len
     pub exponent : new.exponent ≡ old.exponent
     pub tile_long : length new.tile.items ≡ length old.tile.items
-    pub tile : (a b : F) → ArePowers R a xs → ArePowers R b ys → IsTile R e n s (curve R w old.coefs.items) a b new.tile.items
+    pub tile : (a b : F) → AreSquares R a xs → AreSquares R b ys → IsTile R e n s (curve R w old.coefs.items) a b new.tile.items
 
   abbrev pub AreDerived : ℕ → ℕ → ℕ → ℕ → List F → List F → Option (Curve F) → Option (Curve F) → Type 0
   AreDerived w e n s xs ys None None = Unit {0}

@@ -1,20 +1,20 @@
 -- A curve's coefficients as a table, and its derivatives.
 -- Source: this project's own.
-use Rattle.std.specs.Prelude.{◌≡◌, ℕ, ◌+◌, ◌*◌, ◌<◌, List, length}
+use Rattle.std.specs.Prelude.{◌≡◌, ℕ, ◌+◌, ◌*◌, ◌^◌, ◌<◌, List, length, slice_index_or}
 use Rattle.algebra.specs.Lists.{coefficients}
 use Rattle.algebra.specs.Ring.{Ring}
-use Rattle.koetter_terms.specs.Curves.{curve}
-use Rattle.koetter_terms.specs.Derivatives.{derivative}
+use Rattle.algebra.specs.Sums.{power}
+
+-- in a list of places, row by row where there are so many columns to a row, the places of a table that is turned: of the entry in row u and column j, which comes to row j and column u
+pub record AreTurns (width side : ℕ) (turns : List ℕ) : Type 0 where
+  pub count : length turns ≡ width * side
+  pub each : (j u : ℕ) → j < width → u < side → slice_index_or turns (j * side + u) 0 ≡ u * width + j
 
 module _ {F : Type 0} (R : Ring F) where
   -- what stands in row i and column j, where there are so many columns
   abbrev pub entry : ℕ → List F → ℕ → ℕ → F
   entry width table i j = coefficients R table (i * width + j)
 
-  -- in each column the derivative of order u at a of the polynomial in that column of the table
-  abbrev pub IsFolded : ℕ → ℕ → List F → F → ℕ → List F → Type 0
-  IsFolded width height table a u row = (j : ℕ) → j < width → coefficients R row j ≡ derivative R height (λ i. entry width table i j) a u
-
-  -- at the orders (u, v) with u + v below s the derivatives of order v at b of the polynomial in y with the row's coefficients
-  abbrev pub IsColumn : ℕ → ℕ → List F → F → List F → Type 0
-  IsColumn s u row b tile = (v : ℕ) → u + v < s → curve R 1 tile u v ≡ derivative R (length row) (coefficients R row) b v
+  -- the powers a, a^2, a^4 and so on
+  abbrev pub AreSquares : F → List F → Type 0
+  AreSquares a squares = (k : ℕ) → k < length squares → coefficients R squares k ≡ power R a (2 ^ k)

@@ -1,7 +1,8 @@
 //! Tables that all curves share.
 
-ghost use Rattle.std.specs.Prelude.{◌≡◌, ◌+◌, ◌-◌, ◌*◌, ◌/◌, ◌<◌, ◌≤◌, ℕ, suc, IfOk};
+ghost use Rattle.std.specs.Prelude.{◌≡◌, ◌+◌, ◌-◌, ◌*◌, ◌/◌, ◌^◌, ◌<◌, ◌≤◌, ℕ, suc, IfOk};
 ghost use Rattle.koetter_terms.specs.Curves.{AreQuotients};
+ghost use Rattle.gs_koetter.specs.Tables.{AreTurns};
 ghost use Rattle.term_lists.specs.Places.{AreTermsBelow, place};
 
 use std::alloc::{AllocError, Global};
@@ -75,16 +76,76 @@ fn quotient(w: usize, term: Exponents, k: usize, none: usize) -> usize
     k - ((term.x - 1 + w * term.y) / w + 1)
 }
 
-/// The terms of the curves, the orders of the derivatives at a point as terms, and how many powers of y the curves have.
+/// How often a table of so many rows can be halved: `count` times at least, and `span` is how many entries 2^count rows have.
+#[derive(Clone, Copy)]
+pub(crate) struct Halvings {
+    pub(crate) rows: usize,
+    pub(crate) width: usize,
+    pub(crate) count: usize,
+    pub(crate) span: usize,
+    ghost enough: { rows ≤ 2 ^ count },
+    ghost few: { count ≤ rows },
+    ghost whole: { span ≡ 2 ^ count * width },
+}
+
+impl Halvings {
+    pub(crate) fn of(rows: usize, width: usize) -> Halvings
+        requires rows { rows ≤ 4096 }
+        requires width { width ≤ 4096 }
+        ensures rows { result.rows ≡ rows }
+        ensures width { result.width ≡ width }
+    {
+        let mut count = 0;
+        let mut height = 1;
+        let mut span = width;
+        'halvings: while height < rows {
+            count += 1;
+            height *= 2;
+            span *= 2;
+        }
+        Halvings {
+            rows,
+            width,
+            count,
+            span,
+        }
+    }
+}
+
+/// Where in a table with rows of `width` the entries stand that a turned table, whose rows are columns, has one after the other.
+/// Of the table's rows there are the first `side`.
+pub(crate) fn turns(alloc: Global, width: usize, side: usize) -> Result<Vec<usize>, AllocError>
+    requires width { width ≤ 4096 }
+    requires some { 1 ≤ side }
+    requires side { side ≤ 4096 }
+    ensures { IfOk result (λ turns. AreTurns width side turns.items) }
+{
+    let mut turns = Vec::with_capacity(alloc, width * side)?;
+    'places: for k in 0..width * side {
+        turns.push(k % side * width + k / side)?;
+    }
+    Ok(turns)
+}
+
+/// What all curves share: their terms, the orders of the derivatives at a point as terms, how many powers of y there are, how
+/// the tables of derivatives in x and in y are halved, and how the first is turned into the second.
 #[derive(Drop)]
 pub(crate) struct Frame {
     pub(crate) terms: Monomials,
     pub(crate) orders: Monomials,
     pub(crate) width: usize,
+    pub(crate) xs: Halvings,
+    pub(crate) ys: Halvings,
+    pub(crate) turns: Vec<usize>,
     ghost orders_by_one: { orders.w ≡ 1 },
     ghost few_weights: { terms.w ≤ 12 },
     ghost some_powers: { 1 ≤ width },
     ghost few_powers: { width ≤ 4096 },
     ghost all_powers: { terms.e ≤ terms.w * width },
     ghost light_powers: { terms.w * (width - 1) < terms.e },
+    ghost x_rows: { xs.rows ≡ terms.e },
+    ghost x_width: { xs.width ≡ width },
+    ghost y_rows: { ys.rows ≡ width },
+    ghost y_width: { ys.width ≡ orders.e },
+    ghost turned: { AreTurns width orders.e turns.items },
 }

@@ -11,7 +11,7 @@ ghost use Rattle.gs_koetter.specs.States.{IsScratch, point_products};
 ghost use Rattle.term_lists.specs.Extended.{IsExtended};
 
 use crate::curve::Curve;
-use crate::frame::{Frame, Monomials};
+use crate::frame::{Frame, Halvings, Monomials, turns};
 use crate::points::{Scratch, handle_points};
 use bi_poly::BiPoly;
 use gf2m::{Field, Ledger, Steps};
@@ -56,10 +56,15 @@ fn frame(alloc: Global, params: &Params) -> Result<Frame, AllocError>
     let terms = Monomials::below(alloc, w, e)?;
     let orders = Monomials::below(alloc, 1, params.s as usize)?;
     let width = (e - 1) / w + 1;
+    let side = orders.e;
+    let turns = turns(alloc, width, side)?;
     Ok(Frame {
         terms,
         orders,
         width,
+        xs: Halvings::of(e, width),
+        ys: Halvings::of(width, side),
+        turns,
     })
 }
 
@@ -125,13 +130,18 @@ fn first_curves<F: Field>(alloc: Global, frame: &Frame) -> Result<Vec<Option<Cur
 
 /// Room for one point and one curve.
 fn scratch<F: Field>(alloc: Global, frame: &Frame) -> Result<Scratch<F>, AllocError>
-    ensures { IfOk result (λ scratch. IsScratch frame.now.terms.e frame.now.width scratch) }
+    ensures { IfOk result (λ scratch. IsScratch frame.now scratch) }
 {
-    let xs = zeros(alloc, frame.terms.e)?;
-    let ys = zeros(alloc, frame.width)?;
+    let xs = zeros(alloc, frame.xs.count)?;
+    let ys = zeros(alloc, frame.ys.count)?;
     let table = zeros(alloc, frame.terms.e * frame.width)?;
-    let row = zeros(alloc, frame.width)?;
-    Ok(Scratch { xs, ys, table, row })
+    let turned = zeros(alloc, frame.width * frame.orders.e)?;
+    Ok(Scratch {
+        xs,
+        ys,
+        table,
+        turned,
+    })
 }
 
 /// Where a curve is kept.

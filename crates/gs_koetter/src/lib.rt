@@ -5,6 +5,7 @@ mod cancelling;
 mod conditions;
 mod curve;
 mod derivatives;
+mod expanding;
 mod frame;
 mod koetter;
 mod points;

@@ -1,7 +1,6 @@
 //! All conditions at all points.
 
 ghost use Rattle.std.specs.Prelude.{◌≡◌, ℕ, ◌+◌, ◌*◌, ◌≤◌, length, Some};
-ghost use Rattle.bi_poly.specs.Rows.{ArePowers};
 ghost use Rattle.decoding_terms.specs.Parameters.{term_count};
 ghost use Rattle.koetter_terms.specs.State.{Handled};
 ghost use Rattle.gs_koetter.specs.declared.curve.Curve.{Curve};
@@ -10,20 +9,22 @@ ghost use Rattle.gs_koetter.specs.States.{AreDerived, IsBare, IsDerived, IsScrat
 
 use crate::conditions::handle_all;
 use crate::curve::Curve;
-use crate::derivatives::{fill_powers, fill_tile, lay_out};
+use crate::derivatives::{lay_out, pick};
+use crate::expanding::{expand, fill_squares};
 use crate::frame::Frame;
+use crate::raising::shift;
 use gf2m::{Field, Ledger, Steps};
 
-/// Room for the powers of a point's coordinates, for the table of a curve, and for a row of its derivatives.
+/// Room for the squares of a point's coordinates, for the table of a curve, and for its derivatives turned.
 #[derive(Drop)]
 pub(crate) struct Scratch<F> {
     pub(crate) xs: Vec<F>,
     pub(crate) ys: Vec<F>,
     pub(crate) table: Vec<F>,
-    pub(crate) row: Vec<F>,
+    pub(crate) turned: Vec<F>,
 }
 
-/// Puts in the curve's derivatives at the point to whose coordinates these powers belong.
+/// Puts in the curve's derivatives at the point to whose coordinates the squares in `scratch` belong.
 fn derive<F: Field, P: Ledger>(
     curve: &mut Curve<F>,
     scratch: &mut Scratch<F>,
@@ -32,10 +33,10 @@ fn derive<F: Field, P: Ledger>(
 )
     requires curve { IsSpare frame.now.terms.w frame.now.terms.e frame.now.orders.e curve.old }
     requires ended { IsEnded F.ring curve.old }
-    requires scratch { IsScratch frame.now.terms.e frame.now.width scratch.old }
+    requires scratch { IsScratch frame.now scratch.old }
     ensures value { IsDerived F.ring frame.now.terms.w frame.now.terms.e frame.now.width
         frame.now.orders.e scratch.old.xs.items scratch.old.ys.items curve.old curve.new }
-    ensures scratch { IsScratch frame.now.terms.e frame.now.width scratch.new }
+    ensures scratch { IsScratch frame.now scratch.new }
     ensures xs { scratch.new.xs.items ≡ scratch.old.xs.items }
     ensures ys { scratch.new.ys.items ≡ scratch.old.ys.items }
     ensures products { prods.new ≤ prods.old
@@ -47,15 +48,23 @@ fn derive<F: Field, P: Ledger>(
         &frame.terms,
         frame.width,
     );
-    fill_tile(
-        &mut curve.tile,
-        &mut scratch.row,
-        &scratch.table,
+    let side = frame.orders.e;
+    expand(
+        &mut scratch.table,
         &scratch.xs,
-        &scratch.ys,
-        frame.orders.e,
+        frame.xs.span,
+        side * frame.width,
         prods,
     );
+    shift(&mut scratch.turned, &scratch.table, &frame.turns);
+    expand(
+        &mut scratch.turned,
+        &scratch.ys,
+        frame.ys.span,
+        side * side,
+        prods,
+    );
+    pick(&mut curve.tile, &scratch.turned, &frame.orders);
 }
 
 /// Puts in the derivatives of all curves.
@@ -68,12 +77,12 @@ fn derive_all<F: Field, P: Ledger>(
     requires shape { (j : ℕ) (c : Curve F) → slot curves.old j ≡ Some c
         → IsSpare frame.now.terms.w frame.now.terms.e frame.now.orders.e c }
     requires ended { (j : ℕ) (c : Curve F) → slot curves.old j ≡ Some c → IsEnded F.ring c }
-    requires scratch { IsScratch frame.now.terms.e frame.now.width scratch.old }
+    requires scratch { IsScratch frame.now scratch.old }
     ensures value { (j : ℕ) → AreDerived F.ring frame.now.terms.w frame.now.terms.e frame.now.width
         frame.now.orders.e scratch.old.xs.items scratch.old.ys.items (slot curves.old j)
         (slot curves.new j) }
     ensures count { length curves.new ≡ length curves.old }
-    ensures scratch { IsScratch frame.now.terms.e frame.now.width scratch.new }
+    ensures scratch { IsScratch frame.now scratch.new }
     ensures products { prods.new ≤ prods.old
         + length curves.old * derive_products frame.now.terms.e frame.now.width frame.now.orders.e }
 {
@@ -97,12 +106,12 @@ fn handle_point<F: Field, P: Ledger>(
         curves.old }
     requires count { length curves.old ≡ frame.now.width }
     requires spare { IsSpare frame.now.terms.w frame.now.terms.e frame.now.orders.e spare.old }
-    requires scratch { IsScratch frame.now.terms.e frame.now.width scratch.old }
+    requires scratch { IsScratch frame.now scratch.old }
     ensures shape { HaveShape F.ring frame.now.terms.w frame.now.terms.e frame.now.orders.e
         curves.new }
     ensures count { length curves.new ≡ length curves.old }
     ensures spare { IsSpare frame.now.terms.w frame.now.terms.e frame.now.orders.e spare.new }
-    ensures scratch { IsScratch frame.now.terms.e frame.now.width scratch.new }
+    ensures scratch { IsScratch frame.now scratch.new }
     ensures state { (i handled : ℕ) (points : ℕ → F × F) → points i ≡ point
         → IsBare F.ring frame.now.terms.w frame.now.terms.e frame.now.width
         (Handled points frame.now.orders.e i 0) handled curves.old
@@ -112,8 +121,8 @@ fn handle_point<F: Field, P: Ledger>(
     ensures products { prods.new ≤ prods.old
         + point_products frame.now.terms.w frame.now.terms.e frame.now.width frame.now.orders.e }
 {
-    fill_powers(&mut scratch.xs, point.0, prods);
-    fill_powers(&mut scratch.ys, point.1, prods);
+    fill_squares(&mut scratch.xs, point.0, prods);
+    fill_squares(&mut scratch.ys, point.1, prods);
     derive_all(curves, scratch, frame, prods);
     handle_all(curves, spare, frame, point.0, prods);
 }
@@ -131,7 +140,7 @@ pub(crate) fn handle_points<F: Field, P: Ledger>(
         curves.old }
     requires count { length curves.old ≡ frame.now.width }
     requires spare { IsSpare frame.now.terms.w frame.now.terms.e frame.now.orders.e spare.old }
-    requires scratch { IsScratch frame.now.terms.e frame.now.width scratch.old }
+    requires scratch { IsScratch frame.now scratch.old }
     requires state { IsBare F.ring frame.now.terms.w frame.now.terms.e frame.now.width
         (Handled (point_at F.ring points.now) frame.now.orders.e 0 0) 0 curves.old }
     ensures shape { HaveShape F.ring frame.now.terms.w frame.now.terms.e frame.now.orders.e

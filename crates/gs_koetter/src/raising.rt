@@ -13,7 +13,7 @@ use gf2m::{Field, Ledger, Steps};
 use std::mem;
 
 /// The entry at the place, and zero past the end.
-fn entry<F: Field>(source: &[F], place: usize) -> F
+pub(crate) fn entry<F: Field>(source: &[F], place: usize) -> F
     ensures { result ≡ coefficients F.ring source.now place }
 {
     match source.get(place) {
@@ -23,7 +23,7 @@ fn entry<F: Field>(source: &[F], place: usize) -> F
 }
 
 /// Puts at each place what the source has at the quotient there.
-fn shift<F: Field>(target: &mut Vec<F>, source: &[F], quotients: &[usize])
+pub(crate) fn shift<F: Field>(target: &mut Vec<F>, source: &[F], quotients: &[usize])
     requires { length target.old.items ≡ length quotients.now }
     ensures length { length target.new.items ≡ length target.old.items }
     ensures each { (k : ℕ) → k < length quotients.now

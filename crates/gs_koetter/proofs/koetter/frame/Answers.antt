@@ -21,4 +21,9 @@ invariant_of-result c =
       light_powers =
           let there : c.in_ok-terms.terms.w * ((p.e - 1) / p.w + 1 - 1) ≡ p.w * ((p.e - 1) / p.w + 1 - 1) = ap (λ n. n * ((p.e - 1) / p.w + 1 - 1)) w in
           omega (arith, there, e, powers_light p.w p.e p.some_weight positive);
+      x_rows = omega (arith, c.of.ensures.rows, e);
+      x_width = c.of.ensures.width;
+      y_rows = c.of-2.ensures.rows;
+      y_width = c.of-2.ensures.width;
+      turned = c.in_ok-turns.ensures;
     }

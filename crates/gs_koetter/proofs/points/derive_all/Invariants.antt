@@ -9,7 +9,7 @@ invariant-curves g l = record {
   done : (j : ℕ) → j < l.slot-index → AreDerived g.F.Field.ring l.frame.terms.w l.frame.terms.e l.frame.width l.frame.orders.e l.fn.scratch.xs.items l.fn.scratch.ys.items (slot l.fn.curves j) (slot l.curves j);
   rest : (j : ℕ) → l.slot-index ≤ j → slot l.curves j ≡ slot l.fn.curves j;
   count : length l.curves ≡ length l.fn.curves;
-  scratch : IsScratch l.frame.terms.e l.frame.width l.scratch;
+  scratch : IsScratch l.frame l.scratch;
   xs : l.scratch.xs.items ≡ l.fn.scratch.xs.items;
   ys : l.scratch.ys.items ≡ l.fn.scratch.ys.items;
   products : l.prods ≤ l.fn.prods + l.slot-index * derive_products l.frame.terms.e l.frame.width l.frame.orders.e;

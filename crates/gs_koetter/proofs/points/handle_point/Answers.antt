@@ -17,7 +17,7 @@ derive_all-requires-clause-ended g c j d is =
 pub handle_all-requires-clause-shape : goal.handle_all-requires-clause-shape
 handle_all-requires-clause-shape g c =
     let frame = c.args.frame.now in
-    shape_derived g.F.Field.ring frame.terms.w frame.terms.e frame.width frame.orders.e c.fill_powers.new.powers.items c.fill_powers-2.new.powers.items c.args.curves.now c.derive_all.new.curves c.derive_all.ensures.value c.requires.shape
+    shape_derived g.F.Field.ring frame.terms.w frame.terms.e frame.width frame.orders.e c.fill_squares.new.squares.items c.fill_squares-2.new.squares.items c.args.curves.now c.derive_all.new.curves c.derive_all.ensures.value c.requires.shape
 
 pub returns-clause-state : goal.returns-clause-state
 returns-clause-state g c i handled points at bare =
@@ -30,8 +30,8 @@ returns-clause-state g c i handled points at bare =
     let a = c.args.point.0 in
     let b = c.args.point.1 in
     let begun : IsState R w e frame.width s (Handled points s i 0) a b handled c.derive_all.new.curves =
-    state_derived R w e frame.width s c.fill_powers.new.powers.items c.fill_powers-2.new.powers.items c.args.curves.now c.derive_all.new.curves c.derive_all.ensures.value (Handled points s i 0) a b handled
-    c.fill_powers.ensures.powers c.fill_powers-2.ensures.powers bare in
+    state_derived R w e frame.width s c.fill_squares.new.squares.items c.fill_squares-2.new.squares.items c.args.curves.now c.derive_all.new.curves c.derive_all.ensures.value (Handled points s i 0) a b handled
+    c.fill_squares.ensures.squares c.fill_squares-2.ensures.squares bare in
     bare_after R w e frame.width s i (handled + term_count 1 s) points a b c.handle_all.new.curves
     (subst (λ k. IsState R w e k s (Handled points s i (term_count 1 s)) a b (handled + term_count 1 s) c.handle_all.new.curves) n
     (c.handle_all.ensures.state i handled points b at (subst (λ k. IsState R w e k s (Handled points s i 0) a b handled c.derive_all.new.curves) (sym n) begun)))
@@ -43,8 +43,8 @@ returns-clause-products g c =
     let e = frame.terms.e in
     let s = frame.orders.e in
     let n : length c.derive_all.new.curves ≡ frame.width = c.derive_all.ensures.count ∙ c.requires.count in
-    let derived : c.derive_all.new.prods ≤ c.fill_powers-2.new.prods + frame.width * derive_products e frame.width s =
-    subst (λ k. c.derive_all.new.prods ≤ c.fill_powers-2.new.prods + k * derive_products e frame.width s) c.requires.count c.derive_all.ensures.products in
+    let derived : c.derive_all.new.prods ≤ c.fill_squares-2.new.prods + frame.width * derive_products e frame.width s =
+    subst (λ k. c.derive_all.new.prods ≤ c.fill_squares-2.new.prods + k * derive_products e frame.width s) c.requires.count c.derive_all.ensures.products in
     let handled : c.handle_all.new.prods ≤ c.derive_all.new.prods + term_count 1 s * step_products w e s frame.width =
     subst (λ k. c.handle_all.new.prods ≤ c.derive_all.new.prods + term_count 1 s * step_products w e s k) n c.handle_all.ensures.products in
-    omega (arith, derived, handled, c.fill_powers.ensures.products, c.fill_powers-2.ensures.products, c.requires.scratch.xs, c.requires.scratch.ys)
+    omega (arith, derived, handled, c.fill_squares.ensures.products, c.fill_squares-2.ensures.products, c.requires.scratch.xs, c.requires.scratch.ys, frame.xs.few, frame.ys.few, frame.x_rows, frame.y_rows)

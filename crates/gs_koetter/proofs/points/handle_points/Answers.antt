@@ -1,4 +1,4 @@
-use Rattle.std.proofs.Common.{◌≡◌, ◌+◌, ◌*◌, ◌∙◌, sym, subst, arith}
+use Rattle.std.proofs.Common.{◌≡◌, ◌+◌, ◌*◌, length, ◌∙◌, sym, subst, arith}
 use Rattle.std.proofs.lemmas.List.{get_or_default}
 use Rattle.decoding_terms.specs.Parameters.{term_count}
 use Rattle.koetter_terms.specs.State.{Handled}
@@ -21,3 +21,11 @@ points-preserved g c =
           (c.handle_point.ensures.state c.points.i (c.points.i * term_count 1 s) (point_at R c.args.points.now) here c.points.invariant.state);
       products = omega (arith, c.handle_point.ensures.products, c.points.invariant.products);
     }
+
+pub returns-clause-state : goal.returns-clause-state
+returns-clause-state g c =
+    let R = g.F.Field.ring in
+    let frame = c.args.frame.now in
+    let s = frame.orders.e in
+    let all : c.points.i ≡ length c.args.points.now = omega (arith, c.points-test.false, c.points.auto.i-end) in
+    subst (λ k. IsBare R frame.terms.w frame.terms.e frame.width (Handled (point_at R c.args.points.now) s k 0) (k * term_count 1 s) c.points.curves) all c.points.invariant.state

@@ -11,7 +11,7 @@ invariant-points g l = record {
   shape : HaveShape g.F.Field.ring l.frame.terms.w l.frame.terms.e l.frame.orders.e l.curves;
   count : length l.curves ≡ length l.fn.curves;
   spare : IsSpare l.frame.terms.w l.frame.terms.e l.frame.orders.e l.spare;
-  scratch : IsScratch l.frame.terms.e l.frame.width l.scratch;
+  scratch : IsScratch l.frame l.scratch;
   state : IsBare g.F.Field.ring l.frame.terms.w l.frame.terms.e l.frame.width (Handled (point_at g.F.Field.ring l.points) l.frame.orders.e l.i 0) (l.i * term_count 1 l.frame.orders.e) l.curves;
   products : l.prods ≤ l.fn.prods + l.i * point_products l.frame.terms.w l.frame.terms.e l.frame.width l.frame.orders.e;
 }
