@@ -50,10 +50,10 @@ module _ {F : Type 0} (R : Ring F) where
       ∙ sym (derivative_more R n (2 ^ q) (λ j. entry R s turned j u) b v wide (past_rows R n s u turned (omega (arith, turned_long))))
       ∙ derivative_same R n (λ j. entry R s turned j u) (λ j. derivative R e (λ i. curve R w coefs i j) a u) b v
       (λ j m.
-          turn u j u_in m
-          ∙ in_x u j m (cell_inside s n u j u_in m)
-          ∙ sym (derivative_more R e (2 ^ p) (λ i. entry R n table i j) a u tall (past_rows R e n j table (omega (arith, table_long))))
-          ∙ derivative_same R e (λ i. entry R n table i j) (λ i. curve R w coefs i j) a u (λ i k. laid i j k m))
+      turn u j u_in m
+      ∙ in_x u j m (cell_inside s n u j u_in m)
+      ∙ sym (derivative_more R e (2 ^ p) (λ i. entry R n table i j) a u tall (past_rows R e n j table (omega (arith, table_long))))
+      ∙ derivative_same R e (λ i. entry R n table i j) (λ i. curve R w coefs i j) a u (λ i k. laid i j k m))
 
   -- with the derivatives of all curves the state at a point is whole
   module _ (w e n s : ℕ) (xs ys : List F) (old new : List (Option (Curve F))) (derived : (j : ℕ) → AreDerived R w e n s xs ys (slot old j) (slot new j)) where
