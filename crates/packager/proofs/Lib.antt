@@ -2,3 +2,8 @@ pub mod Marks
 pub mod Targets
 pub mod Segments
 pub mod Words
+pub mod Cells
+pub mod Begun
+pub mod Adding
+pub mod Filling
+pub mod Titles

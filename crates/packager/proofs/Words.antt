@@ -1,14 +1,14 @@
 -- The word of a licensee's symbols marks the list that the licensee gets.
-use Rattle.std.proofs.Common.{◌≡◌, ◌∙◌, sym, ap, ap₂, refl, subst, ℕ, ◌+◌, ◌<◌, ◌≤◌, max, true, eqb, List, [], ◌∷◌, map, get_or, length, Option, Some, None, arith}
-use Rattle.std.specs.List.{enumerate_from, range_with_len}
+use Rattle.std.proofs.Common.{◌≡◌, ◌∙◌, sym, ap, ap₂, refl, subst, ℕ, ◌+◌, ◌<◌, max, true, eqb, List, [], ◌∷◌, map, Option, Some, None, arith}
+use Rattle.std.specs.List.{enumerate_from}
 use Rattle.std.specs.Option.{unwrap_or}
 use Rattle.std.proofs.lemmas.Bool.{and_parts, eqb-true}
 use Rattle.std.proofs.lemmas.List.FromFn.{get_or-map-range_with_len}
 use Rattle.std.proofs.lemmas.List.Quantifiers.{position-Some}
 use Rattle.code_terms.specs.Symbols.{symbol_of}
-use Rattle.code_terms.specs.Words.{slot_at, codeword_of}
+use Rattle.code_terms.specs.Words.{codeword_of}
 use Rattle.register_terms.specs.Enrolment.{Enrolment, message_of}
-use Rattle.playlist_terms.specs.Playlists.{PlaylistSegment, Playlist}
+use Rattle.playlist_terms.specs.Playlists.{PlaylistSegment}
 use Rattle.title_terms.specs.Designs.{places, symbols, variant_name}
 use Rattle.title_terms.specs.Titles.{Title, IsTitle}
 use Rattle.packaging_terms.specs.Licensees.{fits, place_of, symbol_at, uri_at, licensed_segment, licensed_list, raised_target}

@@ -1,2 +1,4 @@
 pub mod Licences
 pub mod Marking
+pub mod Refusals
+pub mod Builds

@@ -3,9 +3,12 @@
 
 mod errors;
 mod licence;
+mod making;
 mod marking;
 mod packaging;
+mod refusals;
 mod symbols;
 
-pub use errors::PlaylistFailure;
+pub use errors::{PackError, PlaylistFailure};
+pub use making::make_title;
 pub use packaging::{fits, playlist};

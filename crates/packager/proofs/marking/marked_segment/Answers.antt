@@ -1,5 +1,4 @@
-use Rattle.std.proofs.Common.{rules, ◌≡◌, ◌∙◌, sym, ap, ◌<◌, ◌≤◌, true, arith, subst}
-use Rattle.playlist_terms.specs.Playlists.{is_segment_uri}
+use Rattle.std.proofs.Common.{rules, ◌<◌, arith}
 use Rattle.title_terms.specs.Designs.{places}
 use Rattle.packaging_terms.proofs.VariantNames.{HasVariant, variant_uri}
 use Rattle.packager.proofs.marking.marked_segment.Goals as goal

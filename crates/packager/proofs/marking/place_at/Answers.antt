@@ -1,4 +1,4 @@
-use Rattle.std.proofs.Common.{None, ◌+◌, ◌<◌, ◌≤◌, length, arith}
+use Rattle.std.proofs.Common.{None, ◌<◌, length, arith}
 use Rattle.packager.proofs.Marks.{Goes, behind_all, before_mark, at_mark}
 use Rattle.packager.proofs.marking.place_at.Goals as goal
 use Rattle.packager.proofs.marking.place_at.Goals.{then-place-places-via-then-place-places, then-place-places-via-else-place-places+then-marked-i}

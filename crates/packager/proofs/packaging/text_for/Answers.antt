@@ -1,4 +1,4 @@
-use Rattle.std.proofs.Common.{◌≡◌, ◌∙◌, ap, subst, Ok, IfOk}
+use Rattle.std.proofs.Common.{◌≡◌, ◌∙◌, subst, Ok, IfOk}
 use Rattle.playlist_terms.specs.Playlists.{Playlist, playlist_text}
 use Rattle.playlist_terms.specs.Reading.{playlist_of}
 use Rattle.packaging_terms.specs.Licensees.{licensed_list}
