@@ -11,7 +11,7 @@ use Rattle.koetter_terms.specs.Curves.{curve}
 use Rattle.koetter_terms.proofs.Places.{place_same}
 use Rattle.term_lists.specs.declared.exponents.Exponents.{Exponents}
 use Rattle.term_lists.specs.Places.{AreTermsBelow, exponents_at, place}
-use Rattle.gs_koetter.specs.Tables.{entry}
+use Rattle.gs_koetter.specs.Tables.{AreCells, entry}
 
 -- different rows or columns are different cells
 pub cell_same : (width i j a b : ℕ) → j < width → b < width → i * width + j ≡ a * width + b → (i ≡ a) × (j ≡ b)
@@ -42,6 +42,12 @@ pub term_at : (w e k : ℕ) (terms : List Exponents) (t : Exponents) → AreTerm
 term_at w e k terms t below l is =
     let same : exponents_at terms k ≡ t = get_or_default terms k (record { x = 0; y = 0 }) t l ∙ sym is in
     (subst (λ (x : Exponents). x.x + w * x.y < e) same (below.light k l), subst (λ (x : Exponents). place w x.x x.y ≡ k) same (below.placed k l))
+
+-- a cell of a list, as it is read
+pub cell_at : (w e width k cell : ℕ) (terms : List Exponents) (cells : List ℕ) → AreTermsBelow w e terms → AreCells width terms cells → k < length terms → cell ≡ get_or cells k cell
+    → (cell ≡ (exponents_at terms k).x * width + (exponents_at terms k).y) × ((exponents_at terms k).x + w * (exponents_at terms k).y < e) × (place w (exponents_at terms k).x (exponents_at terms k).y ≡ k)
+cell_at w e width k cell terms cells below are l is =
+    (is ∙ sym (get_or_default cells k 0 cell (omega (arith, l, are.count))) ∙ are.each k l, below.light k l, below.placed k l)
 
 module _ {F : Type 0} (R : Ring F) where
   infixl 60 ◌⊕◌

@@ -6,12 +6,12 @@ ghost use Rattle.decoding_terms.specs.Parameters.{term_count};
 ghost use Rattle.koetter_terms.specs.Curves.{curve};
 ghost use Rattle.gs_koetter.specs.Tables.{entry};
 
-use crate::frame::Monomials;
+use crate::frame::{Frame, Monomials};
 use crate::raising::entry;
 use gf2m::Field;
 
 /// Puts zero everywhere.
-fn clear<F: Field>(table: &mut Vec<F>)
+pub(crate) fn clear<F: Field>(table: &mut Vec<F>)
     ensures zeros { (k : ℕ) → coefficients F.ring table.new.items k ≡ F.ring.nil }
     ensures length { length table.new.items ≡ length table.old.items }
 {
@@ -20,25 +20,18 @@ fn clear<F: Field>(table: &mut Vec<F>)
     }
 }
 
-/// Puts the coefficient of x^i y^j in row i and column j of a table with so many columns, and zeros everywhere else.
-pub(crate) fn lay_out<F: Field>(
-    table: &mut Vec<F>,
-    coefs: &[F],
-    monomials: &Monomials,
-    width: usize,
-)
-    requires few { length coefs.now ≤ length monomials.now.terms.items }
-    requires size { length table.old.items ≡ monomials.now.e * width }
-    requires wide { monomials.now.e ≤ monomials.now.w * width }
-    requires narrow { width ≤ 4096 }
-    ensures entries { (i j : ℕ) → i < monomials.now.e → j < width
-        → entry F.ring width table.new.items i j ≡ curve F.ring monomials.now.w coefs.now i j }
+/// Puts the coefficient of x^i y^j in row i and column j of a table, and zeros everywhere else.
+pub(crate) fn lay_out<F: Field>(table: &mut Vec<F>, coefs: &[F], frame: &Frame)
+    requires few { length coefs.now ≤ length frame.now.terms.terms.items }
+    requires size { length table.old.items ≡ frame.now.terms.e * frame.now.width }
+    ensures entries { (i j : ℕ) → i < frame.now.terms.e → j < frame.now.width
+        → entry F.ring frame.now.width table.new.items i j
+        ≡ curve F.ring frame.now.terms.w coefs.now i j }
     ensures length { length table.new.items ≡ length table.old.items }
 {
     clear(table);
     'terms: for k in 0..coefs.len() {
-        let term = monomials.terms[k];
-        table[term.x * width + term.y] = coefs[k];
+        table[frame.cells[k]] = coefs[k];
     }
 }
 

@@ -2,7 +2,7 @@
 
 ghost use Rattle.std.specs.Prelude.{◌≡◌, ◌+◌, ◌-◌, ◌*◌, ◌/◌, ◌^◌, ◌<◌, ◌≤◌, ℕ, suc, IfOk};
 ghost use Rattle.koetter_terms.specs.Curves.{AreQuotients};
-ghost use Rattle.gs_koetter.specs.Tables.{AreTurns};
+ghost use Rattle.gs_koetter.specs.Tables.{AreCells, AreTurns};
 ghost use Rattle.term_lists.specs.Places.{AreTermsBelow, place};
 
 use std::alloc::{AllocError, Global};
@@ -127,8 +127,26 @@ pub(crate) fn turns(alloc: Global, width: usize, side: usize) -> Result<Vec<usiz
     Ok(turns)
 }
 
+/// At each term's place the place of its coefficient in a table with a row of `width` for each power of x.
+pub(crate) fn cells(
+    alloc: Global,
+    monomials: &Monomials,
+    width: usize,
+) -> Result<Vec<usize>, AllocError>
+    requires width { width ≤ 4096 }
+    ensures { IfOk result (λ cells. AreCells width monomials.now.terms.items cells.items) }
+{
+    let mut cells = Vec::with_capacity(alloc, monomials.terms.len())?;
+    'terms: for k in 0..monomials.terms.len() {
+        let term = monomials.terms[k];
+        cells.push(term.x * width + term.y)?;
+    }
+    Ok(cells)
+}
+
 /// What all curves share: their terms, the orders of the derivatives at a point as terms, how many powers of y there are, how
-/// the tables of derivatives in x and in y are halved, and how the first is turned into the second.
+/// the tables of derivatives in x and in y are halved, where the coefficients stand in the first, and how it is turned into the
+/// second.
 #[derive(Drop)]
 pub(crate) struct Frame {
     pub(crate) terms: Monomials,
@@ -136,6 +154,7 @@ pub(crate) struct Frame {
     pub(crate) width: usize,
     pub(crate) xs: Halvings,
     pub(crate) ys: Halvings,
+    pub(crate) cells: Vec<usize>,
     pub(crate) turns: Vec<usize>,
     ghost orders_by_one: { orders.w ≡ 1 },
     ghost few_weights: { terms.w ≤ 12 },
@@ -147,5 +166,6 @@ pub(crate) struct Frame {
     ghost x_width: { xs.width ≡ width },
     ghost y_rows: { ys.rows ≡ width },
     ghost y_width: { ys.width ≡ orders.e },
+    ghost placed: { AreCells width terms.terms.items cells.items },
     ghost turned: { AreTurns width orders.e turns.items },
 }

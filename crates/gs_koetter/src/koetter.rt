@@ -11,7 +11,7 @@ ghost use Rattle.gs_koetter.specs.States.{IsScratch, point_products};
 ghost use Rattle.term_lists.specs.Extended.{IsExtended};
 
 use crate::curve::Curve;
-use crate::frame::{Frame, Halvings, Monomials, turns};
+use crate::frame::{Frame, Halvings, Monomials, cells, turns};
 use crate::points::{Scratch, handle_points};
 use bi_poly::BiPoly;
 use gf2m::{Field, Ledger, Steps};
@@ -57,6 +57,7 @@ fn frame(alloc: Global, params: &Params) -> Result<Frame, AllocError>
     let orders = Monomials::below(alloc, 1, params.s as usize)?;
     let width = (e - 1) / w + 1;
     let side = orders.e;
+    let cells = cells(alloc, &terms, width)?;
     let turns = turns(alloc, width, side)?;
     Ok(Frame {
         terms,
@@ -64,6 +65,7 @@ fn frame(alloc: Global, params: &Params) -> Result<Frame, AllocError>
         width,
         xs: Halvings::of(e, width),
         ys: Halvings::of(width, side),
+        cells,
         turns,
     })
 }

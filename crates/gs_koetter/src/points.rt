@@ -42,12 +42,7 @@ fn derive<F: Field, P: Ledger>(
     ensures products { prods.new ≤ prods.old
         + derive_products frame.now.terms.e frame.now.width frame.now.orders.e }
 {
-    lay_out(
-        &mut scratch.table,
-        &curve.coefs[..curve.len],
-        &frame.terms,
-        frame.width,
-    );
+    lay_out(&mut scratch.table, &curve.coefs[..curve.len], frame);
     let side = frame.orders.e;
     expand(
         &mut scratch.table,

@@ -8,6 +8,7 @@ ghost use Rattle.gs_koetter.specs.Shapes.{HasShape, IsProduct, IsSpare};
 
 use crate::cancelling::add_front;
 use crate::curve::Curve;
+use crate::derivatives::clear;
 use crate::frame::Frame;
 use gf2m::{Field, Ledger, Steps};
 use std::mem;
@@ -22,37 +23,44 @@ pub(crate) fn entry<F: Field>(source: &[F], place: usize) -> F
     }
 }
 
-/// Puts at each place what the source has at the quotient there.
+/// Puts at each of the first places what the source has at the quotient there.
 pub(crate) fn shift<F: Field>(target: &mut Vec<F>, source: &[F], quotients: &[usize])
-    requires { length target.old.items ≡ length quotients.now }
+    requires { length quotients.now ≤ length target.old.items }
     ensures length { length target.new.items ≡ length target.old.items }
     ensures each { (k : ℕ) → k < length quotients.now
         → coefficients F.ring target.new.items k
         ≡ coefficients F.ring source.now (slice_index_or quotients.now k 0) }
+    ensures rest { (k : ℕ) → length quotients.now ≤ k
+        → coefficients F.ring target.new.items k ≡ coefficients F.ring target.old.items k }
 {
-    'places: for k in 0..target.len() {
+    'places: for k in 0..quotients.len() {
         target[k] = entry(source, quotients[k]);
     }
 }
 
-/// Puts in the product of the source, whose coefficients from `len` on are zero, with x + a.
+/// Puts in the product of the source, whose coefficients from `len` on are zero, with x + a, which has only zeros from `end` on.
 fn multiply<F: Field, P: Ledger>(
     target: &mut Vec<F>,
     source: &[F],
     quotients: &[usize],
     len: usize,
+    end: usize,
     a: F,
     prods: &mut Steps<P>,
 )
     requires target { length target.old.items ≡ length quotients.now }
     requires source { length source.now ≡ length quotients.now }
     requires inside { len ≤ length source.now }
+    requires end { end ≤ length source.now }
     requires rest { (k : ℕ) → len ≤ k → coefficients F.ring source.now k ≡ F.ring.nil }
+    requires past { (k : ℕ) → end ≤ k → k < length quotients.now
+        → coefficients F.ring source.now (slice_index_or quotients.now k 0) ≡ F.ring.nil }
     ensures length { length target.new.items ≡ length target.old.items }
     ensures product { IsRaised F.ring quotients.now a source.now target.new.items }
     ensures products { prods.new ≡ prods.old + len }
 {
-    shift(target, source, quotients);
+    clear(target);
+    shift(target, source, &quotients[..end]);
     add_front(target, source, len, a, prods);
 }
 
@@ -76,17 +84,19 @@ pub(crate) fn raise<F: Field, P: Ledger>(
     ensures spare { IsSpare frame.now.terms.w frame.now.terms.e frame.now.orders.e spare.new }
     ensures products { prods.new ≤ prods.old + term_count frame.now.terms.w frame.now.terms.e }
 {
+    let end = curve.len + (curve.exponent + frame.terms.w * j) / frame.terms.w + 1;
     multiply(
         &mut spare.coefs,
         &curve.coefs,
         &frame.terms.quotients,
         curve.len,
+        end,
         a,
         prods,
     );
     mem::swap(&mut curve.coefs, &mut spare.coefs);
     shift(&mut spare.tile, &curve.tile, &frame.orders.quotients);
     mem::swap(&mut curve.tile, &mut spare.tile);
-    curve.len += (curve.exponent + frame.terms.w * j) / frame.terms.w + 1;
+    curve.len = end;
     curve.exponent += 1;
 }

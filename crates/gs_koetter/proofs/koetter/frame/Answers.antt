@@ -25,5 +25,6 @@ invariant_of-result c =
       x_width = c.of.ensures.width;
       y_rows = c.of-2.ensures.rows;
       y_width = c.of-2.ensures.width;
+      placed = c.in_ok-cells.ensures;
       turned = c.in_ok-turns.ensures;
     }

@@ -1,8 +1,29 @@
-use Rattle.std.proofs.Common.{refl, length, sym, ◌∙◌, ap, subst, arith}
+use Rattle.std.specs.Prelude.{slice_index_or}
+use Rattle.std.proofs.Common.{◌≡◌, suc, refl, length, sym, ◌∙◌, ap, ap₂, subst, arith}
+use Rattle.algebra.specs.Lists.{coefficients}
 use Rattle.koetter_terms.specs.Curves.{IsRaised}
 use Rattle.term_lists.proofs.Ordered.{place_below}
-use Rattle.gs_koetter.proofs.Raised.{raised_lists, raised_shape, shifted_lists}
+use Rattle.gs_koetter.proofs.Raised.{quotient_past, raised_len, raised_lists, raised_shape, shifted_lists}
 use Rattle.gs_koetter.proofs.raising.raise.Goals as goal
+
+pub multiply-requires-clause-end : goal.multiply-requires-clause-end
+multiply-requires-clause-end g c =
+    let frame = c.args.frame.now in
+    let old = c.args.curve.now in
+    let next = raised_len frame.terms.w old.exponent c.args.j old.len frame.terms.some_weight c.requires.shape.len in
+    let below = place_below frame.terms.w frame.terms.e (suc old.exponent) c.args.j frame.terms.some_weight (omega (arith, c.requires.light)) in
+    omega (arith, next, below, ap length c.deref.ensures.value, c.requires.shape.coefs)
+
+pub multiply-requires-clause-past : goal.multiply-requires-clause-past
+multiply-requires-clause-past g c k l m =
+    let R = g.F.Field.ring in
+    let frame = c.args.frame.now in
+    let old = c.args.curve.now in
+    let next = raised_len frame.terms.w old.exponent c.args.j old.len frame.terms.some_weight c.requires.shape.len in
+    let quotients : c.deref-2.result.now ≡ frame.terms.quotients.items = c.deref-2.ensures.value in
+    ap₂ (λ s q. coefficients R s (slice_index_or q k 0)) c.deref.ensures.value quotients
+    ∙ quotient_past R frame.terms.w frame.terms.e old.exponent c.args.j frame.terms.quotients.items frame.terms.terms.items old.coefs.items frame.terms.some_weight frame.terms.quotients_are frame.terms.terms_are
+    c.requires.shape.coefs c.requires.shape.ends k (omega (arith, l, next)) (omega (arith, m, ap length quotients))
 
 pub returns-clause-product : goal.returns-clause-product
 returns-clause-product g c =
