@@ -44,10 +44,10 @@ term_at w e k terms t below l is =
     (subst (λ (x : Exponents). x.x + w * x.y < e) same (below.light k l), subst (λ (x : Exponents). place w x.x x.y ≡ k) same (below.placed k l))
 
 -- a cell of a list, as it is read
-pub cell_at : (w e width k cell : ℕ) (terms : List Exponents) (cells : List ℕ) → AreTermsBelow w e terms → AreCells width terms cells → k < length terms → cell ≡ get_or cells k cell
+pub cell_at : (w e width k cell : ℕ) (terms : List Exponents) (cells : List ℕ) → AreTermsBelow w e terms → AreCells width terms cells → k < length terms → cell ≡ get_or cells k 0
     → (cell ≡ (exponents_at terms k).x * width + (exponents_at terms k).y) × ((exponents_at terms k).x + w * (exponents_at terms k).y < e) × (place w (exponents_at terms k).x (exponents_at terms k).y ≡ k)
 cell_at w e width k cell terms cells below are l is =
-    (is ∙ sym (get_or_default cells k 0 cell (omega (arith, l, are.count))) ∙ are.each k l, below.light k l, below.placed k l)
+    (is ∙ are.each k l, below.light k l, below.placed k l)
 
 module _ {F : Type 0} (R : Ring F) where
   infixl 60 ◌⊕◌

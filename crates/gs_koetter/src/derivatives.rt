@@ -11,9 +11,9 @@ use crate::raising::entry;
 use gf2m::Field;
 
 /// Puts zero everywhere.
-pub(crate) fn clear<F: Field>(table: &mut Vec<F>)
-    ensures zeros { (k : ℕ) → coefficients F.ring table.new.items k ≡ F.ring.nil }
-    ensures length { length table.new.items ≡ length table.old.items }
+pub(crate) fn clear<F: Field>(table: &mut [F])
+    ensures zeros { (k : ℕ) → coefficients F.ring table.new k ≡ F.ring.nil }
+    ensures length { length table.new ≡ length table.old }
 {
     'places: for k in 0..table.len() {
         table[k] = F::zero();
@@ -21,17 +21,18 @@ pub(crate) fn clear<F: Field>(table: &mut Vec<F>)
 }
 
 /// Puts the coefficient of x^i y^j in row i and column j of a table, and zeros everywhere else.
-pub(crate) fn lay_out<F: Field>(table: &mut Vec<F>, coefs: &[F], frame: &Frame)
+pub(crate) fn lay_out<F: Field>(table: &mut [F], coefs: &[F], frame: &Frame)
     requires few { length coefs.now ≤ length frame.now.terms.terms.items }
-    requires size { length table.old.items ≡ frame.now.terms.e * frame.now.width }
+    requires size { length table.old ≡ frame.now.terms.e * frame.now.width }
     ensures entries { (i j : ℕ) → i < frame.now.terms.e → j < frame.now.width
-        → entry F.ring frame.now.width table.new.items i j
+        → entry F.ring frame.now.width table.new i j
         ≡ curve F.ring frame.now.terms.w coefs.now i j }
-    ensures length { length table.new.items ≡ length table.old.items }
+    ensures length { length table.new ≡ length table.old }
 {
     clear(table);
+    let cells = frame.cells.as_slice();
     'terms: for k in 0..coefs.len() {
-        table[frame.cells[k]] = coefs[k];
+        table[cells[k]] = coefs[k];
     }
 }
 

@@ -42,24 +42,14 @@ fn derive<F: Field, P: Ledger>(
     ensures products { prods.new ≤ prods.old
         + derive_products frame.now.terms.e frame.now.width frame.now.orders.e }
 {
-    lay_out(&mut scratch.table, &curve.coefs[..curve.len], frame);
     let side = frame.orders.e;
-    expand(
-        &mut scratch.table,
-        &scratch.xs,
-        frame.xs.span,
-        side * frame.width,
-        prods,
-    );
-    shift(&mut scratch.turned, &scratch.table, &frame.turns);
-    expand(
-        &mut scratch.turned,
-        &scratch.ys,
-        frame.ys.span,
-        side * side,
-        prods,
-    );
-    pick(&mut curve.tile, &scratch.turned, &frame.orders);
+    let table = scratch.table.as_mut_slice();
+    lay_out(table, &curve.coefs[..curve.len], frame);
+    expand(table, &scratch.xs, frame.xs.span, side * frame.width, prods);
+    let turned = scratch.turned.as_mut_slice();
+    shift(turned, table, &frame.turns);
+    expand(turned, &scratch.ys, frame.ys.span, side * side, prods);
+    pick(&mut curve.tile, turned, &frame.orders);
 }
 
 /// Puts in the derivatives of all curves.

@@ -24,14 +24,13 @@ pub(crate) fn entry<F: Field>(source: &[F], place: usize) -> F
 }
 
 /// Puts at each of the first places what the source has at the quotient there.
-pub(crate) fn shift<F: Field>(target: &mut Vec<F>, source: &[F], quotients: &[usize])
-    requires { length quotients.now ≤ length target.old.items }
-    ensures length { length target.new.items ≡ length target.old.items }
-    ensures each { (k : ℕ) → k < length quotients.now
-        → coefficients F.ring target.new.items k
+pub(crate) fn shift<F: Field>(target: &mut [F], source: &[F], quotients: &[usize])
+    requires { length quotients.now ≤ length target.old }
+    ensures length { length target.new ≡ length target.old }
+    ensures each { (k : ℕ) → k < length quotients.now → coefficients F.ring target.new k
         ≡ coefficients F.ring source.now (slice_index_or quotients.now k 0) }
     ensures rest { (k : ℕ) → length quotients.now ≤ k
-        → coefficients F.ring target.new.items k ≡ coefficients F.ring target.old.items k }
+        → coefficients F.ring target.new k ≡ coefficients F.ring target.old k }
 {
     'places: for k in 0..quotients.len() {
         target[k] = entry(source, quotients[k]);
@@ -40,7 +39,7 @@ pub(crate) fn shift<F: Field>(target: &mut Vec<F>, source: &[F], quotients: &[us
 
 /// Puts in the product of the source, whose coefficients from `len` on are zero, with x + a, which has only zeros from `end` on.
 fn multiply<F: Field, P: Ledger>(
-    target: &mut Vec<F>,
+    target: &mut [F],
     source: &[F],
     quotients: &[usize],
     len: usize,
@@ -48,15 +47,15 @@ fn multiply<F: Field, P: Ledger>(
     a: F,
     prods: &mut Steps<P>,
 )
-    requires target { length target.old.items ≡ length quotients.now }
+    requires target { length target.old ≡ length quotients.now }
     requires source { length source.now ≡ length quotients.now }
     requires inside { len ≤ length source.now }
     requires end { end ≤ length source.now }
     requires rest { (k : ℕ) → len ≤ k → coefficients F.ring source.now k ≡ F.ring.nil }
     requires past { (k : ℕ) → end ≤ k → k < length quotients.now
         → coefficients F.ring source.now (slice_index_or quotients.now k 0) ≡ F.ring.nil }
-    ensures length { length target.new.items ≡ length target.old.items }
-    ensures product { IsRaised F.ring quotients.now a source.now target.new.items }
+    ensures length { length target.new ≡ length target.old }
+    ensures product { IsRaised F.ring quotients.now a source.now target.new }
     ensures products { prods.new ≡ prods.old + len }
 {
     clear(target);

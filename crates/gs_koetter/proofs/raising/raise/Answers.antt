@@ -1,8 +1,9 @@
 use Rattle.std.specs.Prelude.{slice_index_or}
-use Rattle.std.proofs.Common.{◌≡◌, suc, refl, length, sym, ◌∙◌, ap, ap₂, subst, arith}
+use Rattle.std.proofs.Common.{◌≡◌, suc, refl, length, drop, sym, ◌∙◌, ap, ap₂, subst, arith}
 use Rattle.algebra.specs.Lists.{coefficients}
 use Rattle.koetter_terms.specs.Curves.{IsRaised}
 use Rattle.term_lists.proofs.Ordered.{place_below}
+use Rattle.gs_koetter.proofs.Ending.{written_back}
 use Rattle.gs_koetter.proofs.Raised.{quotient_past, raised_len, raised_lists, raised_shape, shifted_lists}
 use Rattle.gs_koetter.proofs.raising.raise.Goals as goal
 
@@ -28,11 +29,18 @@ multiply-requires-clause-past g c k l m =
 pub returns-clause-product : goal.returns-clause-product
 returns-clause-product g c =
     let R = g.F.Field.ring in
+    let frame = c.args.frame.now in
+    let old = c.args.curve.now in
+    let spare = c.args.spare.now in
     record {
-      coefs = subst (λ v. IsRaised R c.args.frame.now.terms.quotients.items c.args.a c.args.curve.now.coefs.items v.items) (sym c.swap.ensures.x_after)
-          (raised_lists R c.deref-2.result.now c.args.frame.now.terms.quotients.items c.args.a c.deref.result.now c.args.curve.now.coefs.items c.multiply.new.target.items c.deref-2.ensures.value c.deref.ensures.value c.multiply.ensures.product);
-      tile = subst (λ v. IsRaised R c.args.frame.now.orders.quotients.items R.nil c.args.curve.now.tile.items v.items) (sym c.swap-2.ensures.x_after)
-          (shifted_lists R c.deref-4.result.now c.args.frame.now.orders.quotients.items c.deref-3.result.now c.args.curve.now.tile.items c.shift.new.target.items c.deref-4.ensures.value c.deref-3.ensures.value c.shift.ensures.each);
+      coefs = subst (λ v. IsRaised R frame.terms.quotients.items c.args.a old.coefs.items v.items) (sym c.swap.ensures.x_after)
+          (subst (IsRaised R frame.terms.quotients.items c.args.a old.coefs.items)
+          (sym (written_back c.multiply.new.target (drop (length c.multiply.new.target) spare.coefs.items) spare.coefs.len (omega (arith, c.multiply.ensures.length, ap length c.deref_mut.ensures.value, spare.coefs.ok.0))))
+          (raised_lists R c.deref-2.result.now frame.terms.quotients.items c.args.a c.deref.result.now old.coefs.items c.multiply.new.target c.deref-2.ensures.value c.deref.ensures.value c.multiply.ensures.product));
+      tile = subst (λ v. IsRaised R frame.orders.quotients.items R.nil old.tile.items v.items) (sym c.swap-2.ensures.x_after)
+          (subst (IsRaised R frame.orders.quotients.items R.nil old.tile.items)
+          (sym (written_back c.shift.new.target (drop (length c.shift.new.target) spare.tile.items) spare.tile.len (omega (arith, c.shift.ensures.length, ap length c.deref_mut-2.ensures.value, spare.tile.ok.0))))
+          (shifted_lists R c.deref-4.result.now frame.orders.quotients.items c.deref-3.result.now old.tile.items c.shift.new.target c.deref-4.ensures.value c.deref-3.ensures.value c.shift.ensures.each));
       exponent = omega arith;
     }
 
@@ -40,9 +48,14 @@ pub returns-clause-shape : goal.returns-clause-shape
 returns-clause-shape g c =
     let R = g.F.Field.ring in
     let frame = c.args.frame.now in
+    let spare = c.args.spare.now in
     raised_shape R frame.terms.w frame.terms.e frame.orders.e c.args.j frame.terms.quotients.items frame.terms.terms.items c.args.a c.args.curve.now _ frame.terms.some_weight frame.terms.quotients_are frame.terms.terms_are c.requires.shape
-    (ap (λ v. length v.items) c.swap.ensures.x_after ∙ c.multiply.ensures.length ∙ c.requires.spare.coefs)
-    (ap (λ v. length v.items) c.swap-2.ensures.x_after ∙ c.shift.ensures.length ∙ c.requires.spare.tile)
+    (ap (λ v. length v.items) c.swap.ensures.x_after
+    ∙ ap length (written_back c.multiply.new.target (drop (length c.multiply.new.target) spare.coefs.items) spare.coefs.len (omega (arith, c.multiply.ensures.length, ap length c.deref_mut.ensures.value, spare.coefs.ok.0)))
+    ∙ c.multiply.ensures.length ∙ ap length c.deref_mut.ensures.value ∙ c.requires.spare.coefs)
+    (ap (λ v. length v.items) c.swap-2.ensures.x_after
+    ∙ ap length (written_back c.shift.new.target (drop (length c.shift.new.target) spare.tile.items) spare.tile.len (omega (arith, c.shift.ensures.length, ap length c.deref_mut-2.ensures.value, spare.tile.ok.0)))
+    ∙ c.shift.ensures.length ∙ ap length c.deref_mut-2.ensures.value ∙ c.requires.spare.tile)
     (returns-clause-product g c).coefs (omega arith) refl (omega (arith, c.requires.light))
 
 pub returns-clause-products : goal.returns-clause-products
