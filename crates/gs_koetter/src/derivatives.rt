@@ -21,6 +21,7 @@ pub(crate) fn clear<F: Field>(table: &mut [F])
 }
 
 /// Puts the coefficient of x^i y^j in row i and column j of a table, and zeros everywhere else.
+#[inline(never)] // its loop needs the registers for itself
 pub(crate) fn lay_out<F: Field>(table: &mut [F], coefs: &[F], frame: &Frame)
     requires few { length coefs.now ≤ length frame.now.terms.terms.items }
     requires size { length table.old ≡ frame.now.terms.e * frame.now.width }

@@ -24,6 +24,7 @@ pub(crate) fn entry<F: Field>(source: &[F], place: usize) -> F
 }
 
 /// Puts at each of the first places what the source has at the quotient there.
+#[inline(never)] // its loop needs the registers for itself
 pub(crate) fn shift<F: Field>(target: &mut [F], source: &[F], quotients: &[usize])
     requires { length quotients.now ≤ length target.old }
     ensures length { length target.new ≡ length target.old }

@@ -40,10 +40,10 @@ returns-clause-value g c =
           (λ i j l m. c.lay_out.ensures.entries i j l m ∙ front_same R old c.deref.result.now c.deref.ensures.value c.requires.ended (place w i j))
           (λ u j l m. c.expand.ensures.value a n (subst (AreSquares R a) (sym c.deref-2.ensures.value) xs) (span_is frame.xs p n p_is frame.x_width) u j l m)
           (λ u j l m.
-              let inside = cell_inside n s j u m l in
-              let turns : c.deref-3.result.now ≡ frame.turns.items = c.deref-3.ensures.value in
-              c.shift.ensures.each (j * s + u) (omega (arith, inside, ap length turns, frame.turned.count))
-              ∙ ap (coefficients R c.expand.new.table) (ap (λ t. get_or t (j * s + u) 0) turns ∙ frame.turned.each j u m l))
+          let inside = cell_inside n s j u m l in
+          let turns : c.deref-3.result.now ≡ frame.turns.items = c.deref-3.ensures.value in
+          c.shift.ensures.each (j * s + u) (omega (arith, inside, ap length turns, frame.turned.count))
+          ∙ ap (coefficients R c.expand.new.table) (ap (λ t. get_or t (j * s + u) 0) turns ∙ frame.turned.each j u m l))
           (λ v u l m. c.expand-2.ensures.value b s (subst (AreSquares R b) (sym c.deref-4.ensures.value) ys) (span_is frame.ys q s q_is frame.y_width) v u l m)
           c.pick.ensures.each;
     }
