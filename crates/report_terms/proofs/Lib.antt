@@ -1,3 +1,4 @@
 pub mod Texts
 pub mod DeskFindings
 pub mod LineFeeds
+pub mod Again

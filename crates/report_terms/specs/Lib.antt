@@ -1,2 +1,4 @@
 pub mod Reports
 pub mod Values
+pub mod Verdicts
+pub mod Examples

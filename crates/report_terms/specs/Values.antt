@@ -1,5 +1,5 @@
 -- A report as a value of JSON. This project's own.
-use Rattle.std.specs.Prelude.{◌≡◌, ℕ, List, map, codes, true, All}
+use Rattle.std.specs.Prelude.{◌<◌, ◌^◌, ◌≡◌, ℕ, List, map, codes, true, All}
 use Rattle.serde_json.specs.Data.{Data, unsigned, number, string, array, object, no_members, member}
 use Rattle.serde_json.specs.View.{items_of}
 use Rattle.text_terms.specs.Names.{is_plain}
@@ -25,3 +25,15 @@ report_value f =
 -- every accused has a plain name
 abbrev pub HasPlainNames : Findings → Type 0
 HasPlainNames f = All (λ (a : Accused). is_plain a.name ≡ true) f.accused
+
+-- what can be said of one of the accused in a report
+pub record IsAccusation (a : Accused) : Type 0 where
+  pub plain : is_plain a.name ≡ true
+  pub serial : a.serial < 2 ^ 32
+  pub places : All (λ place. place < 2 ^ 16) a.places
+
+-- findings that a report can say: plain names, and numbers that fit
+pub record AreReportable (f : Findings) : Type 0 where
+  pub readable : f.readable < 2 ^ 32
+  pub bound : f.bound < 2 ^ 32
+  pub accused : All IsAccusation f.accused

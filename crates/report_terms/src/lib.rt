@@ -2,5 +2,7 @@
 #![tactic(auto)]
 
 mod laws;
+mod verdict;
 
-pub use laws::nothing_said;
+pub use laws::{findings_are_reportable, reports_are_read_again, worked_readings, worked_verdicts};
+pub use verdict::Verdict;

@@ -1,6 +1,6 @@
 //! The word that a blob holds.
 
-ghost use Rattle.std.specs.Prelude.{◌≡◌, ◌≤◌, ◌^◌, length, IfOk, IsTrue};
+ghost use Rattle.std.specs.Prelude.{◌≤◌, ◌^◌, length, IfOk, IsTrue};
 ghost use Rattle.text_terms.specs.Names.{is_name};
 ghost use Rattle.code_terms.specs.Words.{HasSymbolsBelow};
 ghost use Rattle.code_terms.specs.WordText.{word_of};

@@ -1,9 +1,9 @@
 //! The findings that a report says.
 
-ghost use Rattle.std.specs.Prelude.{◌≡◌, ◌^◌, ◌≤◌, Some, option_map, option_and_then, IsTrue};
+ghost use Rattle.std.specs.Prelude.{◌≡◌, ◌^◌, Some, option_map, option_and_then};
 ghost use Rattle.serde_json.specs.View.{view, items_view};
-ghost use Rattle.serde_json.specs.Find.{get, as_number, as_u64, as_str, as_array};
-ghost use Rattle.report_terms.specs.Reports.{number_said, name_said, all_said, list_said, place_said, accused_said, findings_said, report_of};
+ghost use Rattle.serde_json.specs.Find.{get, as_u64, as_str, as_array};
+ghost use Rattle.report_terms.specs.Reports.{number_said, name_said, all_said, place_said, accused_said, findings_said, report_of};
 ghost use Rattle.trace_report.specs.Answers.{Tells};
 
 use crate::errors::ReportError;

@@ -1,9 +1,10 @@
 //! Findings as the text of a report.
 
-ghost use Rattle.std.specs.Prelude.{◌≡◌, map, IfOk};
+ghost use Rattle.std.specs.Prelude.{◌≡◌, Some, map, IfOk};
 ghost use Rattle.serde_json.specs.View.{view, items_of, items_view};
 ghost use Rattle.desk_terms.specs.Report.{report_text};
-ghost use Rattle.report_terms.specs.Values.{number_value, places_value, accused_value, report_value, HasPlainNames};
+ghost use Rattle.report_terms.specs.Reports.{report_of};
+ghost use Rattle.report_terms.specs.Values.{number_value, accused_value, report_value, AreReportable, HasPlainNames};
 
 use desk_terms::{Accused, Findings};
 use lists::Memory;
@@ -13,7 +14,9 @@ use std::alloc::{AllocError, Global};
 /// The report of these findings. The only error is want of memory.
 pub fn report_text(alloc: Global, findings: &Findings) -> Result<Vec<u8>, Memory>
     requires { HasPlainNames findings.now }
-    ensures { IfOk result (λ text. text.items ≡ report_text findings.now) }
+    ensures text { IfOk result (λ text. text.items ≡ report_text findings.now) }
+    ensures again { AreReportable findings.now
+        → IfOk result (λ text. report_of text.items ≡ Some findings.now) }
 {
     let value = report_value(alloc, findings)?;
     let mut text = value.to_vec(alloc)?;

@@ -9,7 +9,7 @@ use Rattle.trace_commands.proofs.reporting.report_on.Goals as goal
 pub returns-in_ok-report_text-in-Ok-clause-report : goal.returns-in_ok-report_text-in-Ok-clause-report
 returns-in_ok-report_text-in-Ok-clause-report g c =
     report_found c.args.register.now c.args.word.now c.args.bound c.in-Ok.findings c.requires.bound c.in-Ok.ensures.findings
-    ∙ ap (λ (text : List ℕ). Give text) (sym c.in_ok-report_text-in-Ok.ensures)
+    ∙ ap (λ (text : List ℕ). Give text) (sym c.in_ok-report_text-in-Ok.ensures.text)
 
 pub returns-in-Err-clause-report : goal.returns-in-Err-clause-report
 returns-in-Err-clause-report g c =

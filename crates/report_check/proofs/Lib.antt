@@ -1,0 +1,4 @@
+pub mod Licensees
+pub mod PlaceWalks
+pub mod SerialWalks
+pub mod Faults

@@ -1,0 +1,5 @@
+use Rattle.report_check.proofs.PlaceWalks.{Remains}
+use Rattle.report_check.proofs.places.has_places.Given as goal
+
+abbrev pub invariant-places : goal.invariant-places
+invariant-places g l = Remains g.F.Field.BITS l.code.dimension l.message l.word l.places l.position l.place

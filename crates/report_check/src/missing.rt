@@ -1,0 +1,88 @@
+//! Those who are missing in the list.
+
+ghost use Rattle.std.specs.Prelude.{◌≡◌, ◌<◌, length, true, drop, IsTrue};
+ghost use Rattle.decoding_terms.specs.Parameters.{is_allowed_bound};
+ghost use Rattle.desk_terms.specs.Findings.{is_accused};
+ghost use Rattle.desk_terms.specs.Roll.{roll_of};
+ghost use Rattle.report_terms.specs.Verdicts.{first_missed};
+ghost use Rattle.report_check.specs.Walks.{Ascend, is_next, position_after};
+
+use crate::listed::message_at;
+use crate::places::meets;
+use desk_terms::Accused;
+use gf2m::Field;
+use lic_register::Register;
+use rs_code::{Code, Word};
+use steps::{Ledger, Steps};
+
+/// The serial of the first licensee who meets the threshold and is not in the list. It walks the register once, and the list
+/// beside it.
+pub(crate) fn first_missed<F: Field, P: Ledger, Q: Ledger>(
+    accused: &[Accused],
+    register: &Register,
+    code: &Code<F>,
+    word: &Word,
+    bound: u32,
+    prods: &mut Steps<P>,
+    looks: &mut Steps<Q>,
+) -> Option<u32>
+    requires bits { F.BITS ≡ register.now.bits }
+    requires dimension { code.now.dimension ≡ register.now.dimension }
+    requires length { length word.now ≡ code.now.places }
+    requires bound { is_allowed_bound code.now.dimension bound ≡ true }
+    requires order { Ascend 0 accused.now }
+    ensures { result ≡ first_missed (roll_of register.now) word.now bound accused.now }
+{
+    let mut position = 0;
+    'serials: for serial in 0..register.len() {
+        match position_after(
+            accused, position, serial, register, code, word, bound, prods, looks,
+        ) {
+            Some(next) => position = next,
+            None => return Some(serial),
+        }
+    }
+    None
+}
+
+/// The position in the list behind the licensee of this serial; `None` where the licensee is missing there.
+fn position_after<F: Field, P: Ledger, Q: Ledger>(
+    accused: &[Accused],
+    position: usize,
+    serial: u32,
+    register: &Register,
+    code: &Code<F>,
+    word: &Word,
+    bound: u32,
+    prods: &mut Steps<P>,
+    looks: &mut Steps<Q>,
+) -> Option<usize>
+    requires bits { F.BITS ≡ register.now.bits }
+    requires dimension { code.now.dimension ≡ register.now.dimension }
+    requires length { length word.now ≡ code.now.places }
+    requires bound { is_allowed_bound code.now.dimension bound ≡ true }
+    requires serial { serial < length register.now.licensees }
+    ensures { result ≡ position_after (drop position accused.now) position serial
+        (is_accused (roll_of register.now) word.now bound serial) }
+{
+    if is_next(accused, position, serial) {
+        return Some(position + 1);
+    }
+    let message = message_at(register, serial, looks).unwrap();
+    if meets(message, code, word, bound, prods) {
+        None
+    } else {
+        Some(position)
+    }
+}
+
+/// Whether this serial stands at this position.
+fn is_next(accused: &[Accused], position: usize, serial: u32) -> bool
+    ensures next { result ≡ is_next (drop position accused.now) serial }
+    ensures within { IsTrue result → position < length accused.now }
+{
+    match accused.get(position) {
+        Some(one) => one.serial == serial,
+        None => false,
+    }
+}
