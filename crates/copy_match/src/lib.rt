@@ -1,0 +1,12 @@
+//! What a copy shows of a title: the word, from the digests of the copy's segments.
+#![tactic(auto)]
+
+mod error;
+mod matching;
+mod reader;
+#[cfg(test)]
+mod tests;
+
+pub use error::MatchError;
+pub use matching::match_copy;
+pub use reader::CopyReader;
