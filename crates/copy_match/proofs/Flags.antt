@@ -93,9 +93,9 @@ module _ (t : Title) (valid : IsTitle t) (digests : List (List ℕ)) (x : List �
       let some : 0 < size = pow_pos t.design.bits in
       is ∙ same_by (λ d. list_any (bytes_eq d) digests) (λ d. list_any (bytes_eq d) (digests ++ x ∷ [])) t.digests
       (λ j y there. another digests x y (λ same.
-        let inside : nat_lt (j % size) size ≡ true = lt-ltb (j % size) size (mod-lt j some) in
-        let at : slice_get t.digests (j / size * size + j % size) ≡ Some x = ap (slice_get t.digests) (div-add-mod' j size) ∙ there ∙ ap Some same in
-        absent (j / size) (j % size) (rw inside at)))
+      let inside : nat_lt (j % size) size ≡ true = lt-ltb (j % size) size (mod-lt j some) in
+      let at : slice_get t.digests (j / size * size + j % size) ≡ Some x = ap (slice_get t.digests) (div-add-mod' j size) ∙ there ∙ ap Some same in
+      absent (j / size) (j % size) (rw inside at)))
 
 -- before any digest no flag is set
 pub none_seen : (t : Title) (n : ℕ) (flags : List Bool) → flags ≡ replicate n false → length t.digests ≡ n → flags ≡ flags_of t []

@@ -84,17 +84,17 @@ one_read t copy r more i name digest s now u so_far at reads is title sees =
       seen = sees so_far.digests so_far.seen;
       followed = each_to digest_under (segment_names copy) i name so_far.digests digest at so_far.followed (read_one reads);
       held = over_told s.told (λ blobs told.
-        let before : HaveDigests blobs (take i (segment_names copy)) so_far.digests = at_told (λ b. HaveDigests b (take i (segment_names copy)) so_far.digests) s.told blobs told so_far.held in
-        let held : blob_at blobs name ≡ Some is.blob = at_told (λ b. blob_at b name ≡ Some is.blob) now.told blobs (kept so_far.followed ∙ told) is.held in
-        let one : IsRead blobs name = record { bytes = is.blob; held = held; within = is.within } in
-        let last : digest ≡ sha256 (unwrap_or (blob_at blobs name) []) = is.is ∙ ap (λ (o : Option (List ℕ)). sha256 (unwrap_or o [])) (sym held) in
-        record {
-          read = subst (All (IsRead blobs)) (sym longer) (All-push (IsRead blobs) (take i (segment_names copy)) name before.read one);
-          are =
-              ap (λ (d : List ℕ). so_far.digests ++ d ∷ []) last
-              ∙ ap (λ (ds : List (List ℕ)). ds ++ sha256 (unwrap_or (blob_at blobs name) []) ∷ []) before.are
-              ∙ sym (ap (digests_of blobs) longer ∙ map-append (λ n. sha256 (unwrap_or (blob_at blobs n) [])) (take i (segment_names copy)) (name ∷ []));
-        });
+          let before : HaveDigests blobs (take i (segment_names copy)) so_far.digests = at_told (λ b. HaveDigests b (take i (segment_names copy)) so_far.digests) s.told blobs told so_far.held in
+          let held : blob_at blobs name ≡ Some is.blob = at_told (λ b. blob_at b name ≡ Some is.blob) now.told blobs (kept so_far.followed ∙ told) is.held in
+          let one : IsRead blobs name = record { bytes = is.blob; held = held; within = is.within } in
+          let last : digest ≡ sha256 (unwrap_or (blob_at blobs name) []) = is.is ∙ ap (λ (o : Option (List ℕ)). sha256 (unwrap_or o [])) (sym held) in
+          record {
+            read = subst (All (IsRead blobs)) (sym longer) (All-push (IsRead blobs) (take i (segment_names copy)) name before.read one);
+            are =
+                ap (λ (d : List ℕ). so_far.digests ++ d ∷ []) last
+                ∙ ap (λ (ds : List (List ℕ)). ds ++ sha256 (unwrap_or (blob_at blobs name) []) ∷ []) before.are
+                ∙ sym (ap (digests_of blobs) longer ∙ map-append (λ n. sha256 (unwrap_or (blob_at blobs n) [])) (take i (segment_names copy)) (name ∷ []));
+          });
     }
 
 -- ---- a segment that cannot be read
@@ -148,11 +148,11 @@ module _ (t : Title) (copy : Playlist) (r : Reader) (i : ℕ) (s now : Store) (s
 
   pub all_matches : (word : List (Option ℕ)) → ((digests : List (List ℕ)) → HasSeen r digests → word ≡ word_of_copy r.title digests) → Matches s.told t copy (Ok word)
   all_matches word by = over_told s.told (λ blobs told.
-    let before : HaveDigests blobs (take i (segment_names copy)) so_far.digests = at_told (λ b. HaveDigests b (take i (segment_names copy)) so_far.digests) s.told blobs told so_far.held in
-    record {
-      read = subst (All (IsRead blobs)) whole before.read;
-      is = word_is word by ∙ ap (word_of_copy t) (before.are ∙ ap (digests_of blobs) whole);
-    })
+      let before : HaveDigests blobs (take i (segment_names copy)) so_far.digests = at_told (λ b. HaveDigests b (take i (segment_names copy)) so_far.digests) s.told blobs told so_far.held in
+      record {
+        read = subst (All (IsRead blobs)) whole before.read;
+        is = word_is word by ∙ ap (word_of_copy t) (before.are ∙ ap (digests_of blobs) whole);
+      })
 
   pub all_long : (word : List (Option ℕ)) → ((digests : List (List ℕ)) → HasSeen r digests → word ≡ word_of_copy r.title digests) → length word ≡ places t.design
   all_long word by = ap length (word_is word by) ∙ long_word t so_far.digests

@@ -17,16 +17,16 @@ returns-in-Err-segment_digest-clause-told g c =
     let at = named c.args.copy.now c.segments-segments.result.now c.segments.i c.index-segments-i.result c.segments-segments.ensures.items c.segments-test.true c.index-segments-i.is in
     subst (λ (e : MatchError). Matches (g.S.Shelf.holds c.args.shelf.now) c.args.title.now c.args.copy.now (Err e)) (sym c.stopped_at.ensures)
     (stopped_matches c.args.title.now c.args.copy.now c.segments.reader c.segments.i c.index-segments-i.result.uri c.in-Err-segment_digest.error
-      (store g.S.Shelf.holds g.S.Shelf.counts c.args.shelf.now) (store g.S.Shelf.holds g.S.Shelf.counts c.segments.shelf) c.segments.invariant at c.in-Err-segment_digest.ensures.digest)
+    (store g.S.Shelf.holds g.S.Shelf.counts c.args.shelf.now) (store g.S.Shelf.holds g.S.Shelf.counts c.segments.shelf) c.segments.invariant at c.in-Err-segment_digest.ensures.digest)
 
 pub returns-in-Err-segment_digest-clause-reading : goal.returns-in-Err-segment_digest-clause-reading
 returns-in-Err-segment_digest-clause-reading g c =
     let at = named c.args.copy.now c.segments-segments.result.now c.segments.i c.index-segments-i.result c.segments-segments.ensures.items c.segments-test.true c.index-segments-i.is in
     subst (λ (e : MatchError). Follows (word_of_copy_under c.args.title.now c.args.copy.now) (store g.S.Shelf.holds g.S.Shelf.counts c.args.shelf.now)
-      (store g.S.Shelf.holds g.S.Shelf.counts c.segment_digest.new.shelf) (Err (refusal_of c.args.copy.now e))) (sym c.stopped_at.ensures)
+    (store g.S.Shelf.holds g.S.Shelf.counts c.segment_digest.new.shelf) (Err (refusal_of c.args.copy.now e))) (sym c.stopped_at.ensures)
     (stopped_follows c.args.title.now c.args.copy.now c.segments.reader c.segments.i c.index-segments-i.result.uri c.in-Err-segment_digest.error
-      (store g.S.Shelf.holds g.S.Shelf.counts c.args.shelf.now) (store g.S.Shelf.holds g.S.Shelf.counts c.segments.shelf) (store g.S.Shelf.holds g.S.Shelf.counts c.segment_digest.new.shelf)
-      c.segments.invariant at c.in-Err-segment_digest.ensures.reads)
+    (store g.S.Shelf.holds g.S.Shelf.counts c.args.shelf.now) (store g.S.Shelf.holds g.S.Shelf.counts c.segments.shelf) (store g.S.Shelf.holds g.S.Shelf.counts c.segment_digest.new.shelf)
+    c.segments.invariant at c.in-Err-segment_digest.ensures.reads)
 
 pub segments-preserved : goal.segments-preserved
 segments-preserved g c =

@@ -14,4 +14,4 @@ pub returns-in-None-clause-seen : goal.returns-in-None-clause-seen
 returns-in-None-clause-seen c = λ digests seen.
     subst (λ (r : Reader). HasSeen r (digests ++ c.args.digest.now.bytes ∷ [])) c.self.view_is
     (absent_seen c.self.inside.title.now c.self.invariant.valid digests c.args.digest.now.bytes c.self.inside.flags.items c.in-None.ensures.found
-      (subst (λ (r : Reader). HasSeen r digests) (sym c.self.view_is) seen))
+    (subst (λ (r : Reader). HasSeen r digests) (sym c.self.view_is) seen))
