@@ -4,8 +4,6 @@
 mod error;
 mod matching;
 mod reader;
-#[cfg(test)]
-mod tests;
 
 pub use error::MatchError;
 pub use matching::match_copy;
