@@ -1,4 +1,4 @@
 pub mod Prefixes
-pub mod BlobLists
+pub mod BlobMaps
 pub mod KnownBytes
 pub mod Poured

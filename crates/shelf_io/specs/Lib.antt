@@ -3,7 +3,7 @@ pub mod Writes
 pub mod Puts
 pub mod Plan
 pub mod MemSink
-pub mod BlobList
+pub mod BlobMap
 pub mod MemShelf
 pub mod Folder
 pub mod StdSink

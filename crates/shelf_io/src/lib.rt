@@ -1,7 +1,7 @@
 //! The outside of the program: blobs under names, what is put out, and the small texts that pass between.
 #![tactic(auto)]
 
-mod blob_list;
+mod blob_map;
 mod call_plan;
 mod counts;
 mod errors;

@@ -10,33 +10,34 @@ ghost use Rattle.shelf_io.specs.Plan.{fails_next};
 ghost use Rattle.shelf_io.specs.Reads.{PartGives, part_failed, part_missed};
 ghost use Rattle.shelf_io.specs.Writes.{WriteGives, write_failed};
 
-use crate::blob_list::{Blob, find, part_slice, store};
+use crate::blob_map::{find, part_slice, store};
 use crate::call_plan::CallPlan;
 use crate::counts::Counts;
 use crate::errors::ShelfError;
 use crate::shelf::Shelf;
 use lists::Memory;
 use std::alloc::Global;
+use std::collections::BTreeMap;
 use std::marker::Model;
 
 /// A store in memory. Its calls of `part` and `write` are counted together from 1, and those that are named before fail.
 #[derive(Drop)]
 pub struct MemShelf {
     alloc: Global,
-    blobs: Vec<Blob>,
+    blobs: BTreeMap<String, Vec<u8>>,
     plan: CallPlan,
     counts: Counts,
 }
 
 impl Model for MemShelf {
-    ghost use Rattle.shelf_io.specs.BlobList.{blobs_of};
+    ghost use Rattle.shelf_io.specs.BlobMap.{blobs_of};
     ghost use Rattle.shelf_io.specs.MemShelf.{MemShelfView, view_code};
 
     ghost Value = { MemShelfView };
 
     ghost coded = { view_code };
 
-    ghost view = { λ s. record { blobs = blobs_of s.blobs.items; plan = s.plan; counts = s.counts } };
+    ghost view = { λ s. record { blobs = blobs_of s.blobs.entries; plan = s.plan; counts = s.counts } };
 }
 
 impl MemShelf {
@@ -51,7 +52,7 @@ impl MemShelf {
     {
         MemShelf {
             alloc,
-            blobs: Vec::new(alloc),
+            blobs: BTreeMap::new(alloc),
             plan: CallPlan::new(alloc),
             counts: Counts::new(),
         }
@@ -112,15 +113,12 @@ impl Shelf for MemShelf {
             self.counts.read_failed(name);
             return Err(ShelfError::Fault);
         }
-        match find(self.blobs.as_slice(), name) {
+        match find(&self.blobs, name) {
             None => {
                 self.counts.missed();
                 Err(ShelfError::Missing)
             }
-            Some(place) => {
-                let blob = self.blobs[place].bytes.as_slice();
-                Ok(Vec::from_slice(alloc, part_slice(blob, from, most))?)
-            }
+            Some(blob) => Ok(Vec::from_slice(alloc, part_slice(blob, from, most))?),
         }
     }
 
