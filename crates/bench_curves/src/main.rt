@@ -16,6 +16,9 @@ use std::io;
 use std::marker::Brand;
 use std::sync::ledger::Blank;
 
+#[cfg(test)]
+mod tests;
+
 /// What is done in each round.
 #[derive(Debug, Clone, Copy)]
 enum Work {

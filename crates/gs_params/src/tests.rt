@@ -18,6 +18,7 @@ fn numbers(k: u32, c: u32, r: u32) -> Option<[u32; 7]>
 fn chooses_parameters(rt: HostRuntime) {
     assert_eq!(rt; numbers(5, 3, 39), Some([4, 39, 13, 12, 155, 3042, 3081]));
     assert_eq!(rt; numbers(3, 6, 78), Some([2, 78, 13, 12, 156, 6084, 6162]));
+    assert_eq!(rt; numbers(3, 3, 19), Some([2, 19, 7, 3, 21, 114, 121]));
     assert_eq!(rt; numbers(5, 3, 200), Some([4, 200, 67, 1, 39, 200, 210]));
     assert_eq!(rt; numbers(13, 1, 13), Some([12, 13, 13, 12, 151, 1014, 1027]));
     assert_eq!(rt;
