@@ -5,6 +5,8 @@ mod checking;
 mod listed;
 mod missing;
 mod places;
+#[cfg(test)]
+mod tests;
 
 pub use checking::check;
 pub use report_terms::Verdict;
