@@ -1,0 +1,8 @@
+//! The commands that trace copies: what each reads, and what it puts out.
+#![tactic(auto)]
+
+mod demands;
+mod trace_command;
+mod word;
+
+pub use trace_command::trace;
