@@ -1,6 +1,6 @@
 //! Curves over GF(256) for `bench/curves`, which times them.
 //!
-//! Each line of standard input is a job: `koetter`, `linear` or `points`, the dimension k, the bound c, the number of points and the rounds. In each round a coalition of c codewords makes other points. Or it is `slices` and the number of rounds of adding a multiple of one slice of 1,024 elements to another. The answer is a checksum.
+//! Each line of standard input is a job: `koetter`, `linear`, `roots` or `points`, the dimension k, the bound c, the number of points and the rounds. In each round a coalition of c codewords makes other points; `roots` searches the curve by `koetter` for its roots too. Or it is `slices` and the number of rounds of adding a multiple of one slice of 1,024 elements to another. The answer is a checksum.
 #![tactic(auto)]
 
 ghost use Rattle.std.specs.Prelude.{◌≡◌, ◌<◌, ◌≤◌, length, IfOk};
@@ -11,6 +11,7 @@ use gs_koetter::Koetter;
 use gs_linear::Linear;
 use gs_params::{Interpolate, Params, params};
 use lists::Memory;
+use rr_roots::poly_roots;
 use std::alloc::Global;
 use std::io;
 use std::marker::Brand;
@@ -25,6 +26,7 @@ enum Work {
     Points,
     Linear,
     Koetter,
+    Roots,
     Slices,
 }
 
@@ -46,6 +48,7 @@ fn read_work(word: &str) -> Option<Work> {
         "points" => Some(Work::Points),
         "linear" => Some(Work::Linear),
         "koetter" => Some(Work::Koetter),
+        "roots" => Some(Work::Roots),
         "slices" => Some(Work::Slices),
         _ => None,
     }
@@ -133,6 +136,37 @@ fn found<F: Field, P: Ledger>(
     }
 }
 
+/// A number that depends on what is found with the points of one round.
+fn checked<F: Field, P: Ledger>(
+    alloc: Global,
+    job: Job,
+    points: &[(F, F)],
+    chosen: &Params,
+    prods: &mut Steps<P>,
+) -> Result<u64, Memory>
+    requires { length points.now ≡ chosen.now.r }
+{
+    if let Work::Roots = job.work {
+        return roots(alloc, points, chosen, prods);
+    }
+    let curve = found(alloc, job, points, chosen, prods)?;
+    Ok(curve.coef(0, 1).to() as u64)
+}
+
+/// How many roots the curve has that goes through the points.
+fn roots<F: Field, P: Ledger>(
+    alloc: Global,
+    points: &[(F, F)],
+    chosen: &Params,
+    prods: &mut Steps<P>,
+) -> Result<u64, Memory>
+    requires { length points.now ≡ chosen.now.r }
+{
+    let curve = Koetter.curve(alloc, points, chosen, prods)?;
+    let roots = poly_roots(alloc, &curve, chosen.w + 1, prods)?;
+    Ok(roots.as_slice().len() as u64)
+}
+
 /// A multiple of the second slice added to the first in each round.
 fn slices<F: Field, P: Ledger>(
     alloc: Global,
@@ -162,8 +196,8 @@ fn run<P: Ledger>(alloc: Global, job: Job, blank: Blank) -> Result<u64, Memory>
     let mut sum: u64 = 0;
     for round in 0..job.rounds {
         let points = coalition::<Gf<8>, P>(alloc, job, round, &mut prods)?;
-        let curve = found(alloc, job, &points, &chosen, &mut prods)?;
-        sum = with_number(sum, curve.coef(0, 1).to() as u64);
+        let result = checked(alloc, job, &points, &chosen, &mut prods)?;
+        sum = with_number(sum, result);
     }
     Ok(sum)
 }
