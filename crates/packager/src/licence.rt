@@ -1,6 +1,6 @@
 //! Who holds a licence.
 
-ghost use Rattle.std.specs.Prelude.{◌≡◌, ◌+◌, ◌≤◌};
+ghost use Rattle.std.specs.Prelude.{◌+◌, ◌≤◌};
 ghost use Rattle.packager.specs.Licences.{LicensesAs};
 
 use crate::errors::PlaylistFailure;

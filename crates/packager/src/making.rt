@@ -4,7 +4,6 @@ ghost use Rattle.std.specs.Prelude.{◌≡◌, ◌*◌, ◌<◌, IfSome, IsTrue}
 ghost use Rattle.text_terms.specs.Names.{is_name};
 ghost use Rattle.title_terms.specs.Designs.{IsDesign, places, symbols};
 ghost use Rattle.title_terms.specs.Titles.{cell_of};
-ghost use Rattle.title_store.specs.Builds.{empty_build};
 ghost use Rattle.packaging_terms.specs.Making.{made};
 ghost use Rattle.outcome_terms.specs.Stores.{Answers, Follows, store};
 ghost use Rattle.outcome_terms.specs.TitleCommand.{title_made, told_title};

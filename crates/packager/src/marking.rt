@@ -1,6 +1,6 @@
 //! A title's media list with a variant at each marked segment.
 
-ghost use Rattle.std.specs.Prelude.{◌≡◌, ◌+◌, ◌<◌, ◌≤◌, ◌^◌, ◌++◌, [], ◌∷◌, max, length, true, IfOk, IfSome, OnOk};
+ghost use Rattle.std.specs.Prelude.{◌≡◌, ◌+◌, ◌<◌, ◌^◌, ◌++◌, [], ◌∷◌, max, true, IfOk, IfSome, OnOk};
 ghost use Rattle.title_terms.specs.Designs.{places, symbols};
 ghost use Rattle.packaging_terms.specs.Licensees.{place_of, raised_target, whole_seconds};
 ghost use Rattle.playlist_terms.specs.Playlists.{IsSegment, is_segment_uri};

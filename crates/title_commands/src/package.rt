@@ -1,8 +1,7 @@
 //! `package`: the playlist that a licensee gets.
 
-ghost use Rattle.std.specs.Prelude.{◌≡◌, ◌≤◌, ◌<◌, ◌+◌, ◌*◌, length, true, IfOk, IsErrOf, IsTrue};
+ghost use Rattle.std.specs.Prelude.{◌≡◌, ◌≤◌, length, true, IfOk, IsErrOf, IsTrue};
 ghost use Rattle.text_terms.specs.Names.{is_name};
-ghost use Rattle.title_terms.specs.Designs.{places};
 ghost use Rattle.packaging_terms.specs.Licensees.{fits, licensed_text};
 ghost use Rattle.packager.specs.Licences.{IsLicensed, IsWithdrawn};
 ghost use Rattle.packager.specs.declared.errors.PlaylistFailure.TheVariants as failures;
@@ -10,7 +9,7 @@ ghost use Rattle.outcome_terms.specs.PackageCommand.{package_, packaged};
 ghost use Rattle.outcome_terms.specs.Stores.{Exactly, Follows, Settles, seen, store};
 
 use command_io::{over_field, register_under};
-use gf2m::{Field, Gf};
+use gf2m::Gf;
 use lic_register::Register;
 use lists::Text;
 use outcome_terms::{Fault, Refusal};

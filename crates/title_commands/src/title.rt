@@ -1,6 +1,6 @@
 //! `title`: a title of the variants that are held.
 
-ghost use Rattle.std.specs.Prelude.{◌≡◌, IsTrue};
+ghost use Rattle.std.specs.Prelude.{IsTrue};
 ghost use Rattle.text_terms.specs.Names.{is_name};
 ghost use Rattle.outcome_terms.specs.Stores.{Exactly, Follows, seen, store};
 ghost use Rattle.outcome_terms.specs.TitleCommand.{title};

@@ -1,6 +1,6 @@
 //! A media playlist under a name, which is read while its parts come.
 
-ghost use Rattle.std.specs.Prelude.{◌≡◌, ℕ, List, [], false, IsTrue, OnOk};
+ghost use Rattle.std.specs.Prelude.{◌≡◌, ℕ, List, [], IsTrue};
 ghost use Rattle.text_terms.specs.Names.{is_name};
 ghost use Rattle.playlist_terms.specs.Reading.{playlist_of};
 ghost use Rattle.m3u8_text.specs.Readers.{Stands};
