@@ -26,8 +26,9 @@ pub(crate) fn fill_squares<F: Field, P: Ledger>(
     }
 }
 
-/// Puts the derivatives in each column of a table, which has a polynomial in each column, from the power 0 on; `span` is how
-/// many entries 2^n rows have, where n is the number of powers. Only the first `wanted` entries count afterwards.
+/// Puts in each column of the table, which holds a polynomial's coefficients from the power 0 on, the polynomial's derivatives
+/// from the order 0 on, at the element whose squares these are. `span` is how many entries 2^n rows have, where n is the number
+/// of squares; afterwards only the first `wanted` entries count.
 pub(crate) fn expand<F: Field, P: Ledger>(
     table: &mut [F],
     squares: &[F],

@@ -89,6 +89,7 @@ pub(crate) struct Halvings {
 }
 
 impl Halvings {
+    /// The halvings of a table with so many rows of this width.
     pub(crate) fn of(rows: usize, width: usize) -> Halvings
         requires rows { rows ≤ 4096 }
         requires width { width ≤ 4096 }
