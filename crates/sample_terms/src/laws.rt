@@ -1,0 +1,13 @@
+//! The laws of samples: each is the contract of a function that does nothing.
+
+ghost use Rattle.std.specs.Prelude.{◌≡◌, [], ◌∷◌};
+ghost use Rattle.sample_terms.specs.Numbers.{coalition, multiplier, shift, word_number};
+
+/// Numbers of the sample 7.
+pub fn worked_numbers()
+    ensures first { word_number 7 0 ≡ 3118702321 }
+    ensures seventeenth { word_number 7 17 ≡ 1176347553 }
+    ensures multiplier { multiplier 7 ≡ 13057507 }
+    ensures shift { shift 7 ≡ 9978469 }
+    ensures coalition { coalition 7 ≡ 796 ∷ 414 ∷ 535 ∷ [] }
+{}

@@ -1,0 +1,7 @@
+//! What the sample of a number is: a register, a title and a copy that three licensees put together, and the line that sums up
+//! whom the desk accuses.
+#![tactic(auto)]
+
+mod laws;
+
+pub use laws::worked_numbers;
