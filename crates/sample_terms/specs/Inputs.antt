@@ -1,5 +1,5 @@
 -- The register and the title of a sample, and which of its variants have one digest. This project's own.
-use Rattle.std.specs.Prelude.{ℕ, zero, suc, ◌+◌, ◌*◌, ◌/◌, ◌%◌, List, map, codes, ◌++◌, false, true, Option, Some, None}
+use Rattle.std.specs.Prelude.{ℕ, zero, suc, ◌*◌, ◌/◌, ◌%◌, List, map, codes, ◌++◌, false, true, Option, Some, None}
 use Rattle.std.specs.Fmt.{decimal}
 use Rattle.std.specs.List.{find, range_with_len}
 use Rattle.std.specs.Option.{option_map}
@@ -45,8 +45,12 @@ list = record { version = 3; target = 6; sequence = 0; segments = map segment (r
 unfoldable pub design : Design
 design = record { name = codes "sample"; bits = 8; dimension = 3; bound = 3; prefix = codes "v/"; suffix = codes ".ts"; marked = range_with_len 0 64 }
 
+-- 64 places of 256 symbols
+unfoldable pub variants : ℕ
+variants = 64 * 256
+
 unfoldable pub title_of : ℕ → Title
-title_of number = record { design = design; list = list; digests = map (digest_of number) (range_with_len 0 (64 * 256)) }
+title_of number = record { design = design; list = list; digests = map (digest_of number) (range_with_len 0 variants) }
 
 -- ---- two variants with one digest
 

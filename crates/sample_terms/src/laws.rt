@@ -3,11 +3,14 @@
 ghost use Rattle.std.specs.Prelude.{◌≡◌, [], ◌∷◌};
 ghost use Rattle.sample_terms.specs.Numbers.{coalition, multiplier, shift, word_number};
 
-/// Numbers of the sample 7.
+/// Numbers of samples that were computed apart.
 pub fn worked_numbers()
     ensures first { word_number 7 0 ≡ 3118702321 }
     ensures seventeenth { word_number 7 17 ≡ 1176347553 }
     ensures multiplier { multiplier 7 ≡ 13057507 }
     ensures shift { shift 7 ≡ 9978469 }
     ensures coalition { coalition 7 ≡ 796 ∷ 414 ∷ 535 ∷ [] }
+    ensures of_nought { coalition 0 ≡ 152 ∷ 331 ∷ 93 ∷ [] }
+    ensures of_two { coalition 2 ≡ 514 ∷ 929 ∷ 349 ∷ [] }
+    ensures of_the_last { coalition 18446744073709551615 ≡ 332 ∷ 706 ∷ 633 ∷ [] }
 {}

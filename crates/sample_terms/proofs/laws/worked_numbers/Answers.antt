@@ -23,3 +23,15 @@ returns-clause-shift c = refl
 pub returns-clause-coalition : goal.returns-clause-coalition
 unfolding word_number block_word double_rounds diagonal_round column_round quarter_round u32_at
 returns-clause-coalition c = refl
+
+pub returns-clause-of_nought : goal.returns-clause-of_nought
+unfolding word_number block_word double_rounds diagonal_round column_round quarter_round u32_at
+returns-clause-of_nought c = refl
+
+pub returns-clause-of_two : goal.returns-clause-of_two
+unfolding word_number block_word double_rounds diagonal_round column_round quarter_round u32_at
+returns-clause-of_two c = refl
+
+pub returns-clause-of_the_last : goal.returns-clause-of_the_last
+unfolding word_number block_word double_rounds diagonal_round column_round quarter_round u32_at
+returns-clause-of_the_last c = refl

@@ -1,0 +1,5 @@
+pub mod Registers
+pub mod Indexed
+pub mod Costs
+pub mod Copied
+pub mod Lines
