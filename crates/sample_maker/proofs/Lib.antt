@@ -3,3 +3,4 @@ pub mod Indexed
 pub mod Costs
 pub mod Copied
 pub mod Lines
+pub mod Traced

@@ -1,9 +1,13 @@
 //! The whole sample.
 
 ghost use Rattle.std.specs.Prelude.{◌≡◌, ◌+◌, ◌<◌, ◌≤◌, ℕ, IfOk, None, Some};
+ghost use Rattle.coalition_terms.specs.Coalition.{IsTraced};
 ghost use Rattle.desk_terms.specs.Bounds.{tracing_bound};
+ghost use Rattle.desk_terms.specs.Roll.{roll_of};
 ghost use Rattle.list_decode.specs.Answers.{CostsAtMost};
-ghost use Rattle.sample_terms.specs.Inputs.{twins, variants};
+ghost use Rattle.sample_terms.specs.Copies.{copied_word};
+ghost use Rattle.sample_terms.specs.Inputs.{register_of, twins, variants};
+ghost use Rattle.sample_terms.specs.Numbers.{coalition};
 ghost use Rattle.sample_terms.specs.Summary.{sampled, summary_of};
 ghost use Rattle.sample_maker.specs.Answers.{SamplesAs, twins_in};
 
@@ -30,6 +34,9 @@ pub fn sample<I: Interpolate, P: Ledger, Q: Ledger>(
 ) -> Result<Vec<u8>, SampleError>
     // The summary, or the first two variants that have one digest, exactly where there are two.
     ensures answer { SamplesAs result (sampled number) }
+    // Everyone who is accused is of the coalition, and somebody is.
+    ensures traced { IfOk result (λ _. IsTraced (roll_of (register_of number))
+        (copied_word number) 3 (coalition number)) }
     ensures products { (curve : ℕ) → CostsAtMost I.cost 3 3 30 curve
         → prods.new ≤ prods.old + tracing_bound curve 64 3 3 + 192 }
     ensures looks { looks.new ≤ looks.old + 67 }
@@ -68,11 +75,14 @@ fn traced<I: Interpolate, P: Ledger, Q: Ledger>(
 ) -> Result<Vec<u8>, Memory>
     requires { twins number variants ≡ None }
     ensures summary { IfOk result (λ text. text.items ≡ summary_of number) }
+    ensures traced { IfOk result (λ _. IsTraced (roll_of (register_of number))
+        (copied_word number) 3 (coalition number)) }
     ensures products { (curve : ℕ) → CostsAtMost I.cost 3 3 30 curve
         → prods.new ≤ prods.old + tracing_bound curve 64 3 3 + 192 }
     ensures looks { looks.new ≤ looks.old + 67 }
 {
     let register = register_of(alloc, number)?;
+    let _licensees = register.len();
     let word = copied_word(alloc, number, prods)?;
     let found = findings_of(alloc, &register, &word, by, prods, looks)?;
     let text = summary(alloc, number, &found)?;

@@ -6,6 +6,9 @@ use Rattle.desk_terms.specs.Roll.{roll_of}
 use Rattle.sample_terms.specs.Summary.{found_in, line_on}
 use Rattle.sample_maker.proofs.Copied.{long, thirty}
 use Rattle.sample_maker.proofs.Registers.{bits_are, dimension_is}
+use Rattle.register_terms.specs.Enrolment.{IsValid}
+use Rattle.std.proofs.Common.{subst}
+use Rattle.sample_maker.proofs.Traced.{sample_traced}
 use Rattle.sample_maker.proofs.sampling.traced.Goals as goal
 
 pub findings_of-requires-clause-bits : goal.findings_of-requires-clause-bits
@@ -34,3 +37,6 @@ returns-clause-summary g c =
 
 pub returns-in_err-text-clause-products : goal.returns-in_err-text-clause-products
 returns-in_err-text-clause-products g c = λ curve costs. omega (arith, c.copied_word.ensures.products, c.findings_of.ensures.products curve costs)
+
+pub returns-clause-traced : goal.returns-clause-traced
+returns-clause-traced g c = sample_traced c.args.number (subst IsValid c.in_ok-register.ensures c.len-licensees.ensures.valid)
