@@ -10,6 +10,7 @@ name_word name.Withdraw = codes "withdraw"
 name_word name.Title = codes "title"
 name_word name.Package = codes "package"
 name_word name.Trace = codes "trace"
+name_word name.Check = codes "check"
 name_word name.Accuse = codes "accuse"
 
 abbrev pub name_arguments : CommandName → List ℕ
@@ -19,4 +20,5 @@ name_arguments name.Withdraw = codes "REG NAME OUT"
 name_arguments name.Title = codes "DESIGN SOURCE OUT"
 name_arguments name.Package = codes "TITLE REG NAME OUT"
 name_arguments name.Trace = codes "TITLE REG COPY C"
+name_arguments name.Check = codes "TITLE REG COPY REPORT"
 name_arguments name.Accuse = codes "REG WORD C"

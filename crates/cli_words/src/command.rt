@@ -70,6 +70,17 @@ pub enum Command<'a> {
         /// Size of the largest coalition to allow for.
         c: u128,
     },
+    /// Checks a report on a copy.
+    Check {
+        /// Name of the title's blob.
+        title: &'a str,
+        /// Name of the register's blob.
+        reg: &'a str,
+        /// Name of the blob of the copy's playlist.
+        copy: &'a str,
+        /// Name of the report's blob.
+        report: &'a str,
+    },
     /// Reports whose codewords agree with a word.
     Accuse {
         /// Name of the register's blob.
@@ -96,19 +107,22 @@ pub enum CommandName {
     Package,
     /// `trace`
     Trace,
+    /// `check`
+    Check,
     /// `accuse`
     Accuse,
 }
 
 impl CommandName {
     /// All names, in the order in which an operator needs the commands.
-    pub const ALL: [CommandName; 7] = [
+    pub const ALL: [CommandName; 8] = [
         CommandName::Register,
         CommandName::Enrol,
         CommandName::Withdraw,
         CommandName::Title,
         CommandName::Package,
         CommandName::Trace,
+        CommandName::Check,
         CommandName::Accuse,
     ];
 
@@ -123,6 +137,7 @@ impl CommandName {
             CommandName::Title => "title",
             CommandName::Package => "package",
             CommandName::Trace => "trace",
+            CommandName::Check => "check",
             CommandName::Accuse => "accuse",
         }
     }
@@ -138,6 +153,7 @@ impl CommandName {
             CommandName::Title => "DESIGN SOURCE OUT",
             CommandName::Package => "TITLE REG NAME OUT",
             CommandName::Trace => "TITLE REG COPY C",
+            CommandName::Check => "TITLE REG COPY REPORT",
             CommandName::Accuse => "REG WORD C",
         }
     }
@@ -153,6 +169,7 @@ impl Command<'_> {
             Command::Title { .. } => CommandName::Title,
             Command::Package { .. } => CommandName::Package,
             Command::Trace { .. } => CommandName::Trace,
+            Command::Check { .. } => CommandName::Check,
             Command::Accuse { .. } => CommandName::Accuse,
         }
     }

@@ -13,6 +13,7 @@ ghost use Rattle.outcome_terms.specs.WithdrawCommand.{withdraw_of};
 ghost use Rattle.outcome_terms.specs.TitleCommand.{make_title_of};
 ghost use Rattle.outcome_terms.specs.PackageCommand.{package_of};
 ghost use Rattle.outcome_terms.specs.TraceCommand.{trace_of};
+ghost use Rattle.outcome_terms.specs.CheckCommand.{check_of};
 ghost use Rattle.outcome_terms.specs.AccuseCommand.{accuse_of};
 ghost use Rattle.outcome_terms.specs.Commands.{request_of};
 ghost use Rattle.cli_words.specs.Requests.{request, HasNames};
@@ -39,6 +40,8 @@ pub fn read_words<'a>(words: &'a [String]) -> Option<Command<'a>>
         package_words(arguments)
     } else if is_word(command, "trace") {
         trace_words(arguments)
+    } else if is_word(command, "check") {
+        check_words(arguments)
     } else if is_word(command, "accuse") {
         accuse_words(arguments)
     } else {
@@ -189,6 +192,27 @@ fn trace_words<'a>(arguments: &'a [String]) -> Option<Command<'a>>
         reg,
         copy,
         c,
+    })
+}
+
+/// The command `check` with these words.
+#[tactic(auto, unfolding(outcome_terms::specs::CheckCommand::check_of))]
+fn check_words<'a>(arguments: &'a [String]) -> Option<Command<'a>>
+    ensures asked { option_map request result ≡ check_of (map string_bytes arguments.now) }
+    ensures names { IfSome result HasNames }
+{
+    let [title, reg, copy, report] = arguments else {
+        return None;
+    };
+    let title = named(title)?;
+    let reg = named(reg)?;
+    let copy = named(copy)?;
+    let report = named(report)?;
+    Some(Command::Check {
+        title,
+        reg,
+        copy,
+        report,
     })
 }
 

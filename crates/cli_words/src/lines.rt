@@ -3,7 +3,7 @@
 ghost use Rattle.std.specs.Prelude.{◌≡◌, ◌≢◌, IfOk};
 ghost use Rattle.std.specs.String.{string_bytes};
 ghost use Rattle.packaging_terms.specs.Details.{design_text, key_text, playlist_text, title_text};
-ghost use Rattle.outcome_terms.specs.Statuses.{error_text, fault_line, kind_text, name_line, refusal_line, refusal_status, rule_text, word_fault_text};
+ghost use Rattle.outcome_terms.specs.Statuses.{error_text, fault_line, kind_text, name_line, refusal_line, refusal_status, rule_text, verdict_text, word_fault_text};
 ghost use Rattle.cli_words.specs.Details.{detail_text};
 
 use crate::errors::error_line;
@@ -12,6 +12,7 @@ use lists::Memory;
 use outcome_terms::{Fault, Refusal, Status};
 use playlist_terms::PlaylistFault;
 use register_terms::{NameRefusal, RegisterError, RegisterKind};
+use report_terms::Verdict;
 use std::alloc::{AllocError, Global};
 use title_terms::{DesignFault, Key, TitleKind};
 
@@ -96,6 +97,7 @@ fn line_of_fault<'a>(fault: &'a Fault) -> Line<'a>
             Status::BadRegister,
             Detail::NumberAndWord(at.line, kind_name(at.kind)),
         ),
+        Fault::BadReport => telling(Status::BadReport, Detail::Word("report")),
         Fault::Mismatch {
             title_bits,
             title_dimension,
@@ -128,6 +130,7 @@ fn line_of_fault<'a>(fault: &'a Fault) -> Line<'a>
             Detail::FourNumbers(*place, *symbol as u32, *again_place, *again_symbol as u32),
         ),
         Fault::SameName(name) => telling(Status::SameName, Detail::Word(name.as_str())),
+        Fault::Differs(wrong) => telling(Status::Differs, verdict_detail(*wrong)),
         Fault::BadWord(at) => telling(Status::BadWord, word_detail(*at)),
         Fault::BadParameters(rule) => telling(
             Status::BadParameters,
@@ -161,6 +164,22 @@ fn word_detail<'a>(fault: WordFault) -> Detail<'a>
     match fault {
         WordFault::Token(place) => Detail::WordAndNumber("token", place),
         WordFault::Long => Detail::Word("long"),
+    }
+}
+
+/// What is wrong with a report.
+fn verdict_detail<'a>(verdict: Verdict) -> Detail<'a>
+    ensures { detail_text result ≡ verdict_text verdict }
+{
+    match verdict {
+        Verdict::Right => Detail::Word("right"),
+        Verdict::TooFew(readable) => Detail::WordAndNumber("too-few", readable),
+        Verdict::WrongReadable => Detail::Word("wrong-readable"),
+        Verdict::NotEnrolled(position) => Detail::WordAndNumber("not-enrolled", position),
+        Verdict::Order(position) => Detail::WordAndNumber("order", position),
+        Verdict::WrongPlaces(position) => Detail::WordAndNumber("wrong-places", position),
+        Verdict::Below(position) => Detail::WordAndNumber("below", position),
+        Verdict::Absent(serial) => Detail::WordAndNumber("absent", serial),
     }
 }
 

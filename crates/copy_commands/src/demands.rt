@@ -26,14 +26,14 @@ pub(crate) fn demanded(title: &Title, register: &Register, c: u128) -> Result<u3
 }
 
 /// Whether title and register are of one code.
-fn fits(title: &Title, register: &Register) -> bool
+pub fn fits(title: &Title, register: &Register) -> bool
     ensures { result ≡ fits title.now register.now }
 {
     title.bits() == register.bits() && title.dimension() == register.dimension()
 }
 
 /// The codes that differ.
-fn mismatch(title: &Title, register: &Register) -> Fault
+pub fn mismatch(title: &Title, register: &Register) -> Fault
     ensures { result ≡ mismatch title.now register.now }
 {
     Fault::Mismatch {
@@ -45,7 +45,7 @@ fn mismatch(title: &Title, register: &Register) -> Fault
 }
 
 /// Whether the title serves coalitions of so many licensees.
-fn is_served(title: &Title, c: u128) -> bool
+pub fn is_served(title: &Title, c: u128) -> bool
     ensures served { result ≡ is_served title.now c }
     ensures small { IsTrue result → c ≤ 8 }
 {

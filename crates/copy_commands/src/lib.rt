@@ -5,4 +5,6 @@ mod demands;
 mod trace_command;
 mod word;
 
+pub use demands::{fits, is_served, mismatch};
 pub use trace_command::trace;
+pub use word::word_shown;

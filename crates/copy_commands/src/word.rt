@@ -20,7 +20,7 @@ use title_store::Title;
 
 /// The word that a copy shows, whose playlist is the blob of this name.
 #[tactic(auto, using(outcome_terms::proofs::Readings::reading_rules), unfolding(outcome_terms::specs::TraceCommand::word_shown))]
-pub(crate) fn word_shown<S: Shelf>(
+pub fn word_shown<S: Shelf>(
     alloc: Global,
     shelf: &mut S,
     title: &Title,

@@ -14,7 +14,7 @@ use Rattle.outcome_terms.specs.declared.fault.Fault.TheVariants as fault
 use Rattle.outcome_terms.specs.declared.refusal.Refusal.{Refusal}
 use Rattle.outcome_terms.specs.declared.refusal.Refusal.TheVariants as refusal
 use Rattle.outcome_terms.specs.Statuses.{fault_line, refusal_status, status_code}
-use Rattle.outcome_terms.specs.Request.{Request, Make, Enrol, Withdraw, MakeTitle, Package, Trace, Accuse}
+use Rattle.outcome_terms.specs.Request.{Request, Make, Enrol, Withdraw, MakeTitle, Package, Trace, Check, Accuse}
 use Rattle.outcome_terms.specs.Reading.{Reading, Within}
 use Rattle.outcome_terms.specs.Stores.{Store, NoneFell, Caused, Writing}
 use Rattle.outcome_terms.specs.RegisterCommand.{make, make_statuses}
@@ -23,6 +23,7 @@ use Rattle.outcome_terms.specs.WithdrawCommand.{withdraw, withdraw_statuses}
 use Rattle.outcome_terms.specs.TitleCommand.{title, title_statuses}
 use Rattle.outcome_terms.specs.PackageCommand.{package_, package_statuses}
 use Rattle.outcome_terms.specs.TraceCommand.{trace, trace_statuses}
+use Rattle.outcome_terms.specs.CheckCommand.{check, check_statuses}
 use Rattle.outcome_terms.specs.AccuseCommand.{accuse, accuse_statuses}
 use Rattle.outcome_terms.specs.Commands.{Deed, Nothing, Put, Write, deed, request_of, may_end}
 use Rattle.outcome_terms.specs.Outcome.{Effect, Puts, Wrote, outcome, outcome_of, outcome_status, is_free_status, LeavesEffect, Performs, unknown, made, not_made, wrote, stopped, lost, DeedAsks, deed_names, written_name, refused_by_words}
@@ -30,7 +31,7 @@ use Rattle.outcome_terms.specs.Output.{Output, PutFailed, Delivers, TellsAnswer}
 use Rattle.outcome_terms.specs.Call.{Ends, row_behind, row, IsRefused, may_change, SparesBlobs, TellsWhole, HasEffect, KeepsOutput, StatusCauses, GetsSoFar}
 use Rattle.outcome_terms.proofs.Following.{over_told}
 use Rattle.outcome_terms.proofs.Rows.{make_within, withdraw_within, enrol_within, accuse_within}
-use Rattle.outcome_terms.proofs.TitleRows.{title_within, package_within, trace_within}
+use Rattle.outcome_terms.proofs.TitleRows.{title_within, package_within, trace_within, check_within}
 use Rattle.outcome_terms.proofs.Performing.{Gives, Stands, performs_none_fell, performs_caused, performs_asks, performs_asked, performs_writes, performs_known, performs_gives, performs_only, performs_kept, performs_put_kept, performs_spared, performs_leaves, performs_stands, put_within, write_within, write_puts_none, keeps_blobs}
 
 -- ---- statuses of refusals
@@ -181,6 +182,7 @@ deed_known (Some (Withdraw register name out)) is = cc
 deed_known (Some (MakeTitle design source out)) is = cc
 deed_known (Some (Package name register licensee out)) is = cc
 deed_known (Some (Trace name register copy c)) is = cc
+deed_known (Some (Check name register copy reported)) is = cc
 deed_known (Some (Accuse register word c)) is = cc
 
 -- ---- rows
@@ -246,6 +248,8 @@ status_row (Some (Package name register licensee out)) answer st rose p ends =
     by_words (Write out (package_ name register licensee out)) answer st rose package_statuses p ends (λ is. write_row answer st rose (may_end package_statuses) refl refl refl (package_within name register licensee out is) p ends)
 status_row (Some (Trace name register copy c)) answer st rose p ends =
     by_words (Put (trace name register copy c)) answer st rose trace_statuses p ends (λ is. put_row answer st rose (may_end trace_statuses) refl refl refl (trace_within name register copy c) p ends)
+status_row (Some (Check name register copy reported)) answer st rose p ends =
+    by_words (Put (check name register copy reported)) answer st rose check_statuses p ends (λ is. put_row answer st rose (may_end check_statuses) refl refl refl (check_within name register copy reported) p ends)
 status_row (Some (Accuse register word c)) answer st rose p ends =
     by_words (Put (accuse register word c)) answer st rose accuse_statuses p ends (λ is. put_row answer st rose (may_end accuse_statuses) refl refl refl (accuse_within register word c) p ends)
 

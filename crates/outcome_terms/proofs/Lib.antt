@@ -12,5 +12,6 @@ pub mod AlongLaws
 pub mod TitleMaking
 pub mod PackagingHeadlines
 pub mod TraceHeadlines
+pub mod CheckHeadlines
 pub mod GivenParts
 pub mod PackagingNames

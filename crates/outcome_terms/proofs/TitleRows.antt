@@ -19,9 +19,15 @@ use Rattle.title_terms.specs.Titles.{Title}
 use Rattle.title_terms.specs.TitleText.{TitleFault, title_of}
 use Rattle.packaging_terms.specs.Licensees.{fits}
 use Rattle.packaging_terms.specs.Variants.{variants, blob_of, unmarkable}
+use Rattle.desk_terms.specs.declared.findings.Findings.{Findings}
+use Rattle.desk_terms.specs.Roll.{roll_of}
+use Rattle.report_terms.specs.Reports.{report_of}
+use Rattle.report_terms.specs.Verdicts.{verdict}
+use Rattle.report_terms.specs.declared.verdict.Verdict.{Verdict}
+use Rattle.report_terms.specs.declared.verdict.Verdict.TheVariants as verdicts
 use Rattle.outcome_terms.specs.declared.status.Status.{Status}
 use Rattle.outcome_terms.specs.declared.fault.Fault.{Fault}
-use Rattle.outcome_terms.specs.declared.fault.Fault.TheVariants.{BadDesign, BadPlaylist, BadTitle, BadRegister, BadBound, TooFew, NoSegment, Unknown, Withdrawn, SameName}
+use Rattle.outcome_terms.specs.declared.fault.Fault.TheVariants.{BadDesign, BadPlaylist, BadTitle, BadRegister, BadReport, BadBound, TooFew, NoSegment, Unknown, Withdrawn, SameName}
 use Rattle.outcome_terms.specs.Statuses.{fault_line}
 use Rattle.outcome_terms.specs.Reading.{Reading, Give, ◌>>=◌, ◌>>◌, found, blob, understood, each, AllowsReads, Within}
 use Rattle.outcome_terms.specs.Registers.{register_under}
@@ -30,6 +36,7 @@ use Rattle.outcome_terms.specs.TitleCommand.{design_under, playlist_under, diges
 use Rattle.outcome_terms.specs.PackageCommand.{title_under, mismatch, packaged, package_, package_statuses}
 use Rattle.outcome_terms.specs.AccuseCommand.{report}
 use Rattle.outcome_terms.specs.TraceCommand.{is_served, segment_names, word_of_copy_under, word_shown, trace, trace_statuses}
+use Rattle.outcome_terms.specs.CheckCommand.{findings_under, told_verdict, judged, check, check_statuses}
 use Rattle.outcome_terms.specs.Commands.{may_end}
 use Rattle.outcome_terms.specs.Outcome.{first_refusal}
 use Rattle.outcome_terms.proofs.Rows.{within_then, within_give, within_blob, within_understood, within_met, within_none, within_found, within_words, register_within}
@@ -128,3 +135,38 @@ trace_within name register copy c =
     within_then may (register_under register) _ (register_within may register reads (λ f. refl)) (λ e.
     within_met may (fits t e) (mismatch t e) _ refl (within_met may (is_served t c) (BadBound c) _ refl
     (within_then may (word_shown t copy) _ (word_shown_within may t copy reads (λ f. refl)) (λ slots. report_within e slots c)))))
+
+-- ---- `check`
+
+told_within : (needed : ℕ) (v : Verdict) → Within (may_end check_statuses) (told_verdict needed v)
+unfolding Within
+told_within needed verdicts.Right = tt
+told_within needed (verdicts.TooFew readable) = refl
+told_within needed verdicts.WrongReadable = refl
+told_within needed (verdicts.NotEnrolled position) = refl
+told_within needed (verdicts.Order position) = refl
+told_within needed (verdicts.WrongPlaces position) = refl
+told_within needed (verdicts.Below position) = refl
+told_within needed (verdicts.Absent serial) = refl
+
+judged_within : (e : Enrolment) (word : List (Option ℕ)) (f : Findings) → Within (may_end check_statuses) (judged e word f)
+unfolding judged
+judged_within e word f = told_within (not_enough e.dimension f.bound) (verdict (roll_of e) word f)
+
+findings_within : (name : List ℕ) → Within (may_end check_statuses) (findings_under name)
+unfolding findings_under
+findings_within name =
+    let may = may_end check_statuses in
+    let reads : AllowsReads may = record { missing = refl; failed = refl; long = refl } in
+    within_then may (blob name) _ (within_blob may name reads) (λ bytes. within_found may BadReport (report_of bytes) refl)
+
+pub check_within : (name register copy reported : List ℕ) → Within (may_end check_statuses) (check name register copy reported)
+unfolding check
+check_within name register copy reported =
+    let may = may_end check_statuses in
+    let reads : AllowsReads may = record { missing = refl; failed = refl; long = refl } in
+    within_then may (title_under name) _ (title_under_within may name reads (λ f. refl)) (λ t.
+    within_then may (register_under register) _ (register_within may register reads (λ f. refl)) (λ e.
+    within_met may (fits t e) (mismatch t e) _ refl (within_then may (findings_under reported) _ (findings_within reported) (λ f.
+    within_met may (is_served t f.bound) (BadBound f.bound) _ refl
+    (within_then may (word_shown t copy) _ (word_shown_within may t copy reads (λ f. refl)) (λ slots. judged_within e slots f))))))

@@ -4,7 +4,7 @@ use Rattle.std.specs.List.{list_any}
 use Rattle.std.specs.Str.{bytes_eq}
 use Rattle.outcome_terms.specs.declared.status.Status.{Status}
 use Rattle.outcome_terms.specs.Statuses.{status_code}
-use Rattle.outcome_terms.specs.Request.{Request, Make, Enrol, Withdraw, MakeTitle, Package, Trace, Accuse}
+use Rattle.outcome_terms.specs.Request.{Request, Make, Enrol, Withdraw, MakeTitle, Package, Trace, Check, Accuse}
 use Rattle.outcome_terms.specs.Reading.{Reading}
 use Rattle.outcome_terms.specs.Stores.{Writing}
 use Rattle.outcome_terms.specs.RegisterCommand.{make_of, make, make_statuses}
@@ -13,6 +13,7 @@ use Rattle.outcome_terms.specs.WithdrawCommand.{withdraw_of, withdraw, withdraw_
 use Rattle.outcome_terms.specs.TitleCommand.{make_title_of, title, title_statuses}
 use Rattle.outcome_terms.specs.PackageCommand.{package_of, package_, package_statuses}
 use Rattle.outcome_terms.specs.TraceCommand.{trace_of, trace, trace_statuses}
+use Rattle.outcome_terms.specs.CheckCommand.{check_of, check, check_statuses}
 use Rattle.outcome_terms.specs.AccuseCommand.{accuse_of, accuse, accuse_statuses}
 
 -- the command that the words are; every other list of words is none
@@ -25,8 +26,9 @@ request_of (command ∷ arguments) =
     else (if bytes_eq command (codes "title") then make_title_of arguments
     else (if bytes_eq command (codes "package") then package_of arguments
     else (if bytes_eq command (codes "trace") then trace_of arguments
+    else (if bytes_eq command (codes "check") then check_of arguments
     else (if bytes_eq command (codes "accuse") then accuse_of arguments
-    else None))))))
+    else None)))))))
 
 -- what is to be done
 pub data Deed : Type 0 where
@@ -46,6 +48,7 @@ deed (Some (Withdraw register name out)) = Write out (withdraw register name out
 deed (Some (MakeTitle design source out)) = Write out (title design source out)
 deed (Some (Package name register licensee out)) = Write out (package_ name register licensee out)
 deed (Some (Trace name register copy c)) = Put (trace name register copy c)
+deed (Some (Check name register copy reported)) = Put (check name register copy reported)
 deed (Some (Accuse register word c)) = Put (accuse register word c)
 
 -- the numbers of the statuses that a command may end with which its words do not refuse
@@ -57,6 +60,7 @@ later_statuses (Some (Withdraw register name out)) = withdraw_statuses
 later_statuses (Some (MakeTitle design source out)) = title_statuses
 later_statuses (Some (Package name register licensee out)) = package_statuses
 later_statuses (Some (Trace name register copy c)) = trace_statuses
+later_statuses (Some (Check name register copy reported)) = check_statuses
 later_statuses (Some (Accuse register word c)) = accuse_statuses
 
 abbrev pub may_end : List ℕ → Status → Bool

@@ -13,6 +13,7 @@ pub mod Along
 pub mod TitleCommand
 pub mod PackageCommand
 pub mod TraceCommand
+pub mod CheckCommand
 pub mod Commands
 pub mod Outcome
 pub mod Output
@@ -21,3 +22,4 @@ pub mod Spending
 pub mod Reports
 pub mod PackagingReports
 pub mod TraceReports
+pub mod CheckReports

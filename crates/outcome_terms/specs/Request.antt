@@ -14,5 +14,7 @@ pub data Request : Type 0 where
   Package : (title register name out : List ℕ) → Request
   -- report who agrees with the word of the copy, for coalitions of at most c
   Trace : (title register copy : List ℕ) (c : ℕ) → Request
+  -- check that the report says who agrees with the word of the copy
+  Check : (title register copy report : List ℕ) → Request
   -- report who agrees with the word, for coalitions of at most c
   Accuse : (register word : List ℕ) (c : ℕ) → Request

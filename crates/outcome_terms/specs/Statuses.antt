@@ -9,6 +9,8 @@ use Rattle.register_terms.specs.declared.refusal.RegisterError.{RegisterError}
 use Rattle.register_terms.specs.declared.refusal.RegisterError.TheVariants as rules
 use Rattle.register_terms.specs.declared.refusal.NameRefusal.{NameRefusal}
 use Rattle.register_terms.specs.declared.refusal.NameRefusal.TheVariants as names
+use Rattle.report_terms.specs.declared.verdict.Verdict.{Verdict}
+use Rattle.report_terms.specs.declared.verdict.Verdict.TheVariants as verdict
 use Rattle.packaging_terms.specs.Details.{design_text, playlist_text, title_text, pair_text}
 use Rattle.outcome_terms.specs.declared.status.Status.{Status}
 use Rattle.outcome_terms.specs.declared.status.Status.TheVariants as status
@@ -30,6 +32,7 @@ status_code status.BadDesign = 8
 status_code status.BadPlaylist = 9
 status_code status.BadTitle = 10
 status_code status.BadRegister = 11
+status_code status.BadReport = 12
 status_code status.Mismatch = 13
 status_code status.BadBound = 14
 status_code status.TooFew = 15
@@ -39,6 +42,7 @@ status_code status.Full = 18
 status_code status.Unknown = 19
 status_code status.Duplicate = 20
 status_code status.SameName = 21
+status_code status.Differs = 22
 status_code status.BadWord = 23
 status_code status.BadParameters = 24
 status_code status.NoSegment = 25
@@ -69,6 +73,17 @@ abbrev pub word_fault_text : WordFault → List ℕ
 word_fault_text (word.Token place) = codes "token " ++ decimal place
 word_fault_text word.Long = codes "long"
 
+-- what is wrong with a report
+abbrev pub verdict_text : Verdict → List ℕ
+verdict_text verdict.Right = codes "right"
+verdict_text (verdict.TooFew readable) = codes "too-few " ++ decimal readable
+verdict_text verdict.WrongReadable = codes "wrong-readable"
+verdict_text (verdict.NotEnrolled position) = codes "not-enrolled " ++ decimal position
+verdict_text (verdict.Order position) = codes "order " ++ decimal position
+verdict_text (verdict.WrongPlaces position) = codes "wrong-places " ++ decimal position
+verdict_text (verdict.Below position) = codes "below " ++ decimal position
+verdict_text (verdict.Absent serial) = codes "absent " ++ decimal serial
+
 -- what an error line tells: the status, and a detail
 pub record Line : Type 0 where
   pub status : Status
@@ -89,6 +104,7 @@ fault_line (fault.BadDesign broken) = says status.BadDesign (design_text broken)
 fault_line (fault.BadPlaylist at) = says status.BadPlaylist (decimal at.line ++ (codes " " ++ playlist_text at.fault))
 fault_line (fault.BadTitle at) = says status.BadTitle (decimal at.line ++ (codes " " ++ title_text at.kind))
 fault_line (fault.BadRegister at) = says status.BadRegister (decimal at.line ++ (codes " " ++ kind_text at.kind))
+fault_line fault.BadReport = says status.BadReport (codes "report")
 fault_line (fault.Mismatch title_bits title_dimension register_bits register_dimension) =
     says status.Mismatch (pair_text title_bits title_dimension ++ (codes " " ++ pair_text register_bits register_dimension))
 fault_line (fault.BadBound bound) = says status.BadBound (decimal bound)
@@ -99,6 +115,7 @@ fault_line (fault.Withdrawn name) = says status.Withdrawn name
 fault_line (fault.Duplicate place symbol again_place again_symbol) =
     says status.Duplicate (pair_text place symbol ++ (codes " " ++ pair_text again_place again_symbol))
 fault_line (fault.SameName name) = says status.SameName name
+fault_line (fault.Differs wrong) = says status.Differs (verdict_text wrong)
 fault_line (fault.BadWord at) = says status.BadWord (word_fault_text at)
 fault_line (fault.BadParameters broken) = says status.BadParameters (rule_text broken)
 fault_line (fault.NoSegment segment) = says status.NoSegment (decimal segment)

@@ -4,6 +4,7 @@ use code_terms::WordFault;
 use lists::Text;
 use playlist_terms::LineFault;
 use register_terms::{NameRefusal, RegisterError, RegisterFault};
+use report_terms::Verdict;
 use title_terms::{DesignFault, TitleFault};
 
 /// A refusal that the words and the blobs decide, with the detail of its error line.
@@ -17,6 +18,8 @@ pub enum Fault {
     BadTitle(TitleFault),
     /// The blob is no register: the first line that breaks the form, and how.
     BadRegister(RegisterFault),
+    /// The blob is no report.
+    BadReport,
     /// The title and the register are of different codes.
     Mismatch {
         /// The bits of the title's symbols.
@@ -56,6 +59,8 @@ pub enum Fault {
     },
     /// This blob is both read and to be written.
     SameName(Text),
+    /// The report is not what the desk finds: the first thing that is wrong with it.
+    Differs(Verdict),
     /// The blob is no word: the first token that breaks the form, or too many.
     BadWord(WordFault),
     /// The numbers make no register: the first rule that they break.

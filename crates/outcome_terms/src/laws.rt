@@ -8,12 +8,13 @@ ghost use Rattle.playlist_terms.specs.declared.fault.PlaylistFault.TheVariants.{
 ghost use Rattle.title_terms.specs.declared.fault.TitleKind.TheVariants.{Form};
 ghost use Rattle.title_terms.specs.declared.fault.Key.TheVariants as keys;
 ghost use Rattle.title_terms.specs.declared.fault.DesignFault.TheVariants.{Missing, WrongType, TooWeak, BadMarked};
-ghost use Rattle.outcome_terms.specs.declared.fault.Fault.TheVariants.{BadDesign, BadPlaylist, BadTitle, Mismatch, Duplicate, NoSegment};
+ghost use Rattle.outcome_terms.specs.declared.fault.Fault.TheVariants.{BadDesign, BadPlaylist, BadTitle, BadReport, Differs, Mismatch, Duplicate, NoSegment};
+ghost use Rattle.report_terms.specs.declared.verdict.Verdict.TheVariants.{Absent, WrongPlaces, WrongReadable};
 ghost use Rattle.outcome_terms.specs.declared.status.Status.TheVariants as statuses;
 ghost use Rattle.outcome_terms.specs.Statuses.{fault_line, says};
 ghost use Rattle.outcome_terms.specs.declared.refusal.Refusal.{Refusal};
 ghost use Rattle.outcome_terms.specs.Commands.{request_of};
-ghost use Rattle.outcome_terms.specs.Request.{Accuse, Enrol, Make, MakeTitle, Package, Trace, Withdraw};
+ghost use Rattle.outcome_terms.specs.Request.{Accuse, Check, Enrol, Make, MakeTitle, Package, Trace, Withdraw};
 ghost use Rattle.outcome_terms.specs.Reading.{Reading, given, ◌>>=◌ as ◌and_then◌};
 ghost use Rattle.outcome_terms.specs.Stores.{Answers, Follows, Store};
 
@@ -45,6 +46,8 @@ pub fn worked_examples()
         ≡ Some (Package (codes "t") (codes "reg") (codes "lic0") (codes "o")) }
     ensures trace { request_of (codes "trace" ∷ codes "t" ∷ codes "reg" ∷ codes "copy" ∷ codes "3" ∷ [])
         ≡ Some (Trace (codes "t") (codes "reg") (codes "copy") 3) }
+    ensures check { request_of (codes "check" ∷ codes "t" ∷ codes "reg" ∷ codes "copy" ∷ codes "rep" ∷ [])
+        ≡ Some (Check (codes "t") (codes "reg") (codes "copy") (codes "rep")) }
     ensures accuse { request_of (codes "accuse" ∷ codes "reg" ∷ codes "w" ∷ codes "3" ∷ [])
         ≡ Some (Accuse (codes "reg") (codes "w") 3) }
     ensures too_few { request_of (codes "accuse" ∷ codes "reg" ∷ codes "w" ∷ []) ≡ None }
@@ -56,7 +59,8 @@ pub fn worked_examples()
     ensures no_words { request_of [] ≡ None }
 {}
 
-/// What error lines say of designs, playlists and titles, of codes that do not fit, of equal variants and of marked numbers.
+/// What error lines say of designs, playlists and titles, of codes that do not fit, of equal variants, of reports and of
+/// marked numbers.
 pub fn worked_details()
     ensures weak { fault_line (BadDesign TooWeak) ≡ says statuses.BadDesign (codes "too-weak") }
     ensures missing { fault_line (BadDesign (Missing keys.M)) ≡ says statuses.BadDesign (codes "missing m") }
@@ -67,5 +71,9 @@ pub fn worked_details()
     ensures form { fault_line (BadTitle (fault 4 Form)) ≡ says statuses.BadTitle (codes "4 form") }
     ensures mismatch { fault_line (Mismatch 4 2 4 3) ≡ says statuses.Mismatch (codes "4 2 4 3") }
     ensures duplicate { fault_line (Duplicate 2 5 3 10) ≡ says statuses.Duplicate (codes "2 5 3 10") }
+    ensures report { fault_line BadReport ≡ says statuses.BadReport (codes "report") }
+    ensures readable { fault_line (Differs WrongReadable) ≡ says statuses.Differs (codes "wrong-readable") }
+    ensures places { fault_line (Differs (WrongPlaces 0)) ≡ says statuses.Differs (codes "wrong-places 0") }
+    ensures absent { fault_line (Differs (Absent 16)) ≡ says statuses.Differs (codes "absent 16") }
     ensures segment { fault_line (NoSegment 12) ≡ says statuses.NoSegment (codes "12") }
 {}

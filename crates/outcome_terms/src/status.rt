@@ -29,6 +29,8 @@ pub enum Status {
     BadTitle = 10,
     /// The blob is no register.
     BadRegister = 11,
+    /// The blob is no report.
+    BadReport = 12,
     /// The title and the register are of different codes.
     Mismatch = 13,
     /// The codes of this register, or the design of this title, allow no trace with this bound.
@@ -47,6 +49,8 @@ pub enum Status {
     Duplicate = 20,
     /// The blob to be written is one that the command reads.
     SameName = 21,
+    /// The report is not what the desk finds.
+    Differs = 22,
     /// The blob is no word.
     BadWord = 23,
     /// The numbers make no register.

@@ -4,7 +4,7 @@ use Rattle.std.specs.Option.{IfSome}
 use Rattle.shelf_terms.specs.Blobs.{Blobs}
 use Rattle.outcome_terms.specs.declared.status.Status.{Status}
 use Rattle.outcome_terms.specs.declared.status.Status.TheVariants as status
-use Rattle.outcome_terms.specs.Request.{Request, Make, Enrol, Withdraw, Accuse}
+use Rattle.outcome_terms.specs.Request.{Request, Make, Enrol, Withdraw, MakeTitle, Package, Trace, Check, Accuse}
 use Rattle.outcome_terms.specs.Stores.{Store}
 use Rattle.outcome_terms.specs.Commands.{deed, request_of}
 use Rattle.outcome_terms.specs.Outcome.{outcome_of, refused_by_words}
@@ -16,6 +16,9 @@ use Rattle.outcome_terms.proofs.Headlines.{register_made, name_enrolled, name_wi
 use Rattle.trace_cli.specs.Coalitions.{TracesCoalitions}
 use Rattle.trace_cli.specs.Headline.{Headline}
 use Rattle.trace_cli.proofs.Coalitions.{report_traces}
+use Rattle.trace_cli.proofs.Checked.{right_told}
+use Rattle.trace_cli.proofs.Packaged.{title_written, playlist_written}
+use Rattle.trace_cli.proofs.TracedCopies.{trace_told}
 
 -- where blobs are told, what follows of them
 told_too : {P Q : Blobs → Type 0} (told : Option Blobs) → ((blobs : Blobs) → P blobs → Q blobs) → IfSome told P → IfSome told Q
@@ -33,6 +36,10 @@ promised None s old new before after words effect = (words.ends, words.untouched
 promised (Some (Make m k a b out)) s old new before after words effect = λ ok. told_too old.told (λ blobs h. register_made blobs m k a b out new.told before after h) (effect ok)
 promised (Some (Enrol register name out)) s old new before after words effect = λ ok. told_too old.told (λ blobs h. name_enrolled blobs register name out new.told before after h) (effect ok)
 promised (Some (Withdraw register name out)) s old new before after words effect = λ ok. told_too old.told (λ blobs h. name_withdrawn blobs register name out new.told before after h) (effect ok)
+promised (Some (MakeTitle design source out)) s old new before after words effect = λ ok. told_too old.told (λ blobs h. title_written blobs design source out new.told before after h) (effect ok)
+promised (Some (Package title register name out)) s old new before after words effect = λ ok. told_too old.told (λ blobs h. playlist_written blobs title register name out new.told before after h) (effect ok)
+promised (Some (Trace title register copy c)) s old new before after words effect = λ ok. trace_told old.told new.told title register copy c before after (effect ok)
+promised (Some (Check title register copy report)) s old new before after words effect = λ ok. right_told old.told new.told title register copy report before after (effect ok)
 promised (Some (Accuse register word c)) s old new before after words effect =
     λ ok. accuse_told old.told register word c before.written after.written (told_too old.told (λ blobs h. report_put blobs register word c new.told before after h) (effect ok))
 

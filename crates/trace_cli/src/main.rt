@@ -1,4 +1,5 @@
-//! The program of Nujwamek: it keeps registers of licensees, and finds those whose copies a leaked film was made from.
+//! The program of Nujwamek: it keeps registers of licensees, packages a film for each, and finds those whose copies a leaked one was
+//! made from.
 //!
 //! `run` is the whole program but for the world outside: it is proved for every shelf of blobs and every output. `main` hands it
 //! the files under the current folder and the standard output.
@@ -15,6 +16,7 @@ mod ending;
 mod run_call;
 #[cfg(test)]
 mod tests;
+mod usage;
 
 use cli_words::Status;
 use costs::CURVES;
@@ -29,10 +31,14 @@ use std::process::ExitCode;
 use std::sync::ledger::Blank;
 use std::{env, io};
 use steps::{Ledger, Steps};
+use usage::show_usage;
 
 fn main(rt: HostRuntime) -> ExitCode {
     let words = words_of(rt.alloc(), env::args(&rt));
-    ExitCode::from(answered(rt, words).code())
+    let mut error = rt.stderr();
+    let status = answered(rt, words);
+    show_usage(status, &mut error);
+    ExitCode::from(status.code())
 }
 
 /// How the program ends on these words, or where they could not be had.

@@ -14,14 +14,17 @@ ghost use Rattle.trace_commands.specs.Costs.{IsBuilt, built_costs, curve_costs};
 ghost use Rattle.trace_cli.specs.Headline.{Headline};
 
 use crate::ending::put_out;
+use check_commands::check;
 use cli_words::{Command, Status, read_words};
 use command_io::{Done, write_text};
+use copy_commands::trace;
 use gs_params::Interpolate;
 use outcome_terms::Refusal;
 use register_commands::{enrolled_text, register_text, withdrawn_text};
 use shelf_io::{Shelf, Sink};
 use std::alloc::Global;
 use steps::{Ledger, Steps};
+use title_commands::{playlist_text, title_text};
 use trace_commands::accuse;
 
 /// Does what the words say: it reads and writes blobs of the shelf, puts an answer or one error line to `out`, and says how it ended.
@@ -132,6 +135,41 @@ fn perform<S: Shelf, I: Interpolate, P: Ledger, Q: Ledger>(
         Command::Withdraw { reg, name, out } => {
             let text = withdrawn_text(alloc, shelf, reg, name, out, looks)?;
             write_text(alloc, shelf, out, text)
+        }
+        Command::Title {
+            design,
+            source,
+            out,
+        } => {
+            let text = title_text(alloc, shelf, design, source, out)?;
+            write_text(alloc, shelf, out, text)
+        }
+        Command::Package {
+            title,
+            reg,
+            name,
+            out,
+        } => {
+            let text = playlist_text(alloc, shelf, title, reg, name, out, prods, looks)?;
+            write_text(alloc, shelf, out, text)
+        }
+        Command::Trace {
+            title,
+            reg,
+            copy,
+            c,
+        } => {
+            let text = trace(alloc, shelf, title, reg, copy, c, by, prods, looks)?;
+            Ok(Done::Text(text))
+        }
+        Command::Check {
+            title,
+            reg,
+            copy,
+            report,
+        } => {
+            let text = check(alloc, shelf, title, reg, copy, report, prods, looks)?;
+            Ok(Done::Text(text))
         }
         Command::Accuse { reg, word, c } => {
             let text = accuse(alloc, shelf, reg, word, c, by, prods, looks)?;

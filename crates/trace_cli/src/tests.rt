@@ -2,5 +2,10 @@
 
 mod accuse;
 mod calls;
+mod checks;
+mod copies;
 mod desk;
+mod distributed;
+mod films;
+mod packaging;
 mod registers;

@@ -67,7 +67,7 @@ const FIVE: [(&str, &str); 8] = [
         "0: {\"accused\":[],\"bound\":1,\"readable\":2}\n",
     ),
     ("", "2: error 2 words\n"),
-    ("trace a b c 3", "2: error 2 words\n"),
+    ("follow a b c 3", "2: error 2 words\n"),
     ("accuse reg w", "2: error 2 words\n"),
     ("accuse nowhere w 1", "3: error 3 nowhere\n"),
     ("accuse reg nowhere 1", "3: error 3 nowhere\n"),

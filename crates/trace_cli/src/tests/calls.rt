@@ -7,11 +7,12 @@ use gs_koetter::Koetter;
 use gs_linear::Linear;
 use gs_params::Interpolate;
 use lists::Memory;
-use shelf_io::{MemShelf, MemSink};
+use shelf_io::{MemShelf, MemSink, Shelf};
 use std::alloc::Global;
 use std::marker::Brand;
 use std::sync::ledger::Blank;
 use steps::{Ledger, Steps};
+use texts::is_name;
 
 /// What a call put out, with its status in front.
 pub fn call(alloc: Global, shelf: &mut MemShelf, line: &str) -> Result<String, Memory> {
@@ -104,4 +105,16 @@ pub fn answer(alloc: Global, register: &str, word: &str, line: &str) -> Result<S
         return Ok(by_steps);
     }
     Ok(format!(in alloc; "{by_algebra} and {by_steps}")?)
+}
+
+/// What the shelf has under a name.
+pub fn held(alloc: Global, shelf: &mut MemShelf, name: &str) -> Result<String, Memory> {
+    if !is_name(name) {
+        return Ok(String::from_str(alloc, "no name")?);
+    }
+    let Ok(part) = shelf.part(alloc, name, 0, 60_000) else {
+        return Ok(String::from_str(alloc, "not there")?);
+    };
+    let text = std::str::from_utf8(part.as_slice()).unwrap_or("no text");
+    Ok(format!(in alloc; "held: {text}")?)
 }

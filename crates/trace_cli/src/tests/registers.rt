@@ -1,11 +1,10 @@
 //! `register`, `enrol` and `withdraw`.
 
-use super::calls::{call, register};
+use super::calls::{call, held, register};
 use lists::Memory;
-use shelf_io::{MemShelf, Shelf};
+use shelf_io::MemShelf;
 use std::alloc::Global;
 use std::test::Fail;
-use texts::is_name;
 
 /// One call after another on one shelf, and what each puts out.
 const CALLS: [(&str, &str); 24] = [
@@ -56,18 +55,6 @@ const BLOBS: [(&str, &str); 9] = [
     ),
     ("r9", "not there"),
 ];
-
-/// What the shelf has under a name.
-fn held(alloc: Global, shelf: &mut MemShelf, name: &str) -> Result<String, Memory> {
-    if !is_name(name) {
-        return Ok(String::from_str(alloc, "no name")?);
-    }
-    let Ok(part) = shelf.part(alloc, name, 0, 1000) else {
-        return Ok(String::from_str(alloc, "not there")?);
-    };
-    let text = std::str::from_utf8(part.as_slice()).unwrap_or("no text");
-    Ok(format!(in alloc; "held: {text}")?)
-}
 
 /// A shelf with a register that is full, one that is cut, one whose licensee has no state, one of the older text with five
 /// licensees, and a word.

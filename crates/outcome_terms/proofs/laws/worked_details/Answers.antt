@@ -4,4 +4,4 @@ use Rattle.outcome_terms.proofs.laws.worked_details.Goals as goal
 
 pub returns : goal.returns
 unfolding digits
-returns c = record { weak = refl; missing = refl; wrong_type = refl; marked = refl; uri = refl; target = refl; form = refl; mismatch = refl; duplicate = refl; segment = refl }
+returns c = record { weak = refl; missing = refl; wrong_type = refl; marked = refl; uri = refl; target = refl; form = refl; mismatch = refl; duplicate = refl; report = refl; readable = refl; places = refl; absent = refl; segment = refl }

@@ -1,0 +1,76 @@
+//! A film as a distributor has it: 900 segments, 32 of them marked, and the whole copy of one cinema.
+
+use super::calls::{call, call_with, held};
+use super::films::{hold_itself, hold_variants};
+use gs_koetter::Koetter;
+use lists::Memory;
+use shelf_io::{MemShelf, MemSink};
+use std::alloc::Global;
+use std::test::Fail;
+
+/// The source of 900 segments of 6.006 seconds, each of which is held.
+fn hold_source(alloc: Global, shelf: &mut MemShelf) -> Result<(), Memory> {
+    let mut text = String::from_str(alloc, "#EXTM3U\n#EXT-X-TARGETDURATION:6\n")?;
+    for segment in 0u32..900 {
+        write!(text, "#EXTINF:6.006,\ns{segment}.ts\n")?;
+        let name = format!(in alloc; "s{segment}.ts")?;
+        hold_itself(shelf, name.as_str())?;
+    }
+    text.push_str("#EXT-X-ENDLIST\n")?;
+    shelf.hold("source", text.as_bytes())
+}
+
+/// The design: every 28th segment is marked.
+fn hold_design(alloc: Global, shelf: &mut MemShelf) -> Result<(), Memory> {
+    let mut text = String::from_str(
+        alloc,
+        "name = \"feature\"\nm = 5\nk = 3\nc = 3\nprefix = \"v/\"\nsuffix = \".ts\"\nmarked = [0",
+    )?;
+    for place in 1u32..32 {
+        let marked = place * 28;
+        write!(text, ", {marked}")?;
+    }
+    text.push_str("]\n")?;
+    shelf.hold("design", text.as_bytes())
+}
+
+/// The register of eight cinemas.
+fn hold_register(alloc: Global, shelf: &mut MemShelf) -> Result<(), Memory> {
+    let mut text = String::from_str(alloc, "register 2\nm 5\nk 3\na 12345\nb 678\n")?;
+    for serial in 0u32..8 {
+        write!(text, "active cinema-{serial:03}\n")?;
+    }
+    shelf.hold("reg", text.as_bytes())
+}
+
+fn distributed(alloc: Global) -> Result<MemShelf, Memory> {
+    let mut shelf = MemShelf::new(alloc);
+    hold_source(alloc, &mut shelf)?;
+    hold_design(alloc, &mut shelf)?;
+    hold_register(alloc, &mut shelf)?;
+    hold_variants(alloc, &mut shelf, 32, 32)?;
+    Ok(shelf)
+}
+
+#[test]
+fn a_cinema_gets_its_playlist_and_is_found(rt: HostRuntime) -> Result<(), Fail> {
+    let alloc = rt.alloc();
+    let mut shelf = distributed(alloc)?;
+    let titled = call(alloc, &mut shelf, "title design source title")?;
+    assert_eq!(rt; titled.as_str(), "0: ");
+    let packaged = call(alloc, &mut shelf, "package title reg cinema-007 copy")?;
+    assert_eq!(rt; packaged.as_str(), "0: ");
+    let said = held(alloc, &mut shelf, "copy")?;
+    let text = said.as_str().strip_prefix("held: ").unwrap_or("");
+    let lines = text.lines().count();
+    assert_eq!(rt; lines, 1806);
+    assert_eq!(rt; text.lines().nth(2), Some("#EXT-X-TARGETDURATION:6"));
+    // The URI of segment i stands on line 7 + 2i.
+    assert_eq!(rt; text.lines().nth(6), Some("v/0-15.ts"));
+    assert_eq!(rt; text.lines().nth(6 + 2 * 28), Some("v/1-01.ts"));
+    assert_eq!(rt; text.lines().nth(6 + 2 * 56), Some("v/2-09.ts"));
+    let mut out = MemSink::new(alloc);
+    let found = call_with(alloc, &mut shelf, &mut out, "trace title reg copy 3", &Koetter)?;
+    assert_eq!(rt; found.as_str(), "0: {\"accused\":[{\"name\":\"cinema-007\",\"places\":[0,1,2,3,4,5,6,7,8,9,10,11,12,13,14,15,16,17,18,19,20,21,22,23,24,25,26,27,28,29,30,31],\"serial\":7}],\"bound\":3,\"readable\":32}\n");
+    Ok(())
+}
