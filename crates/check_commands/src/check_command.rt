@@ -71,5 +71,5 @@ fn checked<S: Shelf, P: Ledger, Q: Ledger>(
         return Err(Refusal::Content(Fault::BadBound(u128::from(findings.bound))));
     }
     let word = word_shown(alloc, shelf, title, copy)?;
-    judged(alloc, register, &word, &findings, prods, looks)
+    judged(alloc, title, register, &word, &findings, prods, looks)
 }

@@ -6,8 +6,11 @@ ghost use Rattle.decoding_terms.specs.Parameters.{is_allowed_bound};
 ghost use Rattle.decoder_terms.specs.Decoding.{not_enough};
 ghost use Rattle.desk_terms.specs.Roll.{roll_of};
 ghost use Rattle.report_terms.specs.Verdicts.{verdict};
+ghost use Rattle.title_terms.specs.Designs.{places, symbols};
+ghost use Rattle.packaging_terms.specs.Licensees.{fits};
 ghost use Rattle.outcome_terms.specs.CheckCommand.{judged, told_verdict};
 ghost use Rattle.outcome_terms.specs.Stores.{Settles, seen};
+ghost use Rattle.outcome_terms.specs.TraceCommand.{is_served};
 
 use command_io::over_field;
 use desk_terms::Findings;
@@ -18,13 +21,34 @@ use report_check::{Verdict, check};
 use rs_code::{Code, Word};
 use std::alloc::Global;
 use steps::{Ledger, Steps};
+use title_store::Title;
 
 /// What is put out for a report that is right.
 const RIGHT: &[u8] = b"right\n";
 
+/// The answer to findings in a word that a copy shows of the title.
+pub(crate) fn judged<P: Ledger, Q: Ledger>(
+    alloc: Global,
+    title: &Title,
+    register: &Register,
+    word: &Word,
+    findings: &Findings,
+    prods: &mut Steps<P>,
+    looks: &mut Steps<Q>,
+) -> Result<Vec<u8>, Refusal>
+    requires same_code { fits title.now register.now ≡ true }
+    requires served { is_served title.now findings.now.bound ≡ true }
+    requires places { length word.now ≡ places title.now.design }
+    requires symbols { HasSymbolsBelow (symbols title.now.design) word.now }
+    ensures { Settles (seen (λ text. text.items) result) (judged register.now word.now findings.now) }
+{
+    let _places = title.places();
+    judged_word(alloc, register, word, findings, prods, looks)
+}
+
 /// The answer to findings in a word.
 #[tactic(auto, unfolding(outcome_terms::specs::CheckCommand::judged))]
-pub(crate) fn judged<P: Ledger, Q: Ledger>(
+fn judged_word<P: Ledger, Q: Ledger>(
     alloc: Global,
     register: &Register,
     word: &Word,
