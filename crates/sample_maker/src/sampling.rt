@@ -5,7 +5,7 @@ ghost use Rattle.coalition_terms.specs.Coalition.{IsTraced};
 ghost use Rattle.desk_terms.specs.Bounds.{tracing_bound};
 ghost use Rattle.desk_terms.specs.Roll.{roll_of};
 ghost use Rattle.list_decode.specs.Answers.{CostsAtMost};
-ghost use Rattle.sample_terms.specs.Copies.{copied_word};
+ghost use Rattle.sample_terms.specs.Copies.{word_of};
 ghost use Rattle.sample_terms.specs.Inputs.{register_of, twins, variants};
 ghost use Rattle.sample_terms.specs.Numbers.{coalition};
 ghost use Rattle.sample_terms.specs.Summary.{sampled, summary_of};
@@ -36,7 +36,7 @@ pub fn sample<I: Interpolate, P: Ledger, Q: Ledger>(
     ensures answer { SamplesAs result (sampled number) }
     // Everyone who is accused is of the coalition, and somebody is.
     ensures traced { IfOk result (λ _. IsTraced (roll_of (register_of number))
-        (copied_word number) 3 (coalition number)) }
+        (word_of number) 3 (coalition number)) }
     ensures products { (curve : ℕ) → CostsAtMost I.cost 3 3 30 curve
         → prods.new ≤ prods.old + tracing_bound curve 64 3 3 + 192 }
     ensures looks { looks.new ≤ looks.old + 67 }
@@ -76,7 +76,7 @@ fn traced<I: Interpolate, P: Ledger, Q: Ledger>(
     requires { twins number variants ≡ None }
     ensures summary { IfOk result (λ text. text.items ≡ summary_of number) }
     ensures traced { IfOk result (λ _. IsTraced (roll_of (register_of number))
-        (copied_word number) 3 (coalition number)) }
+        (word_of number) 3 (coalition number)) }
     ensures products { (curve : ℕ) → CostsAtMost I.cost 3 3 30 curve
         → prods.new ≤ prods.old + tracing_bound curve 64 3 3 + 192 }
     ensures looks { looks.new ≤ looks.old + 67 }

@@ -7,7 +7,7 @@ use Rattle.desk_terms.specs.Findings.{findings}
 use Rattle.desk_terms.specs.Roll.{roll_of}
 use Rattle.sample_terms.specs.Numbers.{first_member, second_member, third_member}
 use Rattle.sample_terms.specs.Inputs.{register_of, twins, variants}
-use Rattle.sample_terms.specs.Copies.{copied_word}
+use Rattle.sample_terms.specs.Copies.{word_of}
 
 -- a number behind a space
 abbrev pub spaced : ℕ → List ℕ
@@ -29,7 +29,7 @@ line_on number found = line number found.readable (first_member number) (second_
 
 -- the findings at the bound 3
 unfoldable pub found_in : ℕ → Findings
-found_in number = findings (roll_of (register_of number)) (copied_word number) 3
+found_in number = findings (roll_of (register_of number)) (word_of number) 3
 
 abbrev pub summary_of : ℕ → List ℕ
 summary_of number = line_on number (found_in number)

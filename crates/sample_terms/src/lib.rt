@@ -4,4 +4,4 @@
 
 mod laws;
 
-pub use laws::worked_numbers;
+pub use laws::{copies_are_read, worked_numbers};

@@ -7,8 +7,12 @@ use Rattle.sample_terms.specs.Summary.{found_in, line_on}
 use Rattle.sample_maker.proofs.Copied.{long, thirty}
 use Rattle.sample_maker.proofs.Registers.{bits_are, dimension_is}
 use Rattle.register_terms.specs.Enrolment.{IsValid}
-use Rattle.std.proofs.Common.{subst}
+use Rattle.std.proofs.Common.{subst, sym}
 use Rattle.sample_maker.proofs.Traced.{sample_traced}
+use Rattle.coalition_terms.specs.Coalition.{IsTraced}
+use Rattle.sample_terms.specs.Numbers.{coalition}
+use Rattle.sample_terms.specs.Inputs.{register_of}
+use Rattle.sample_terms.proofs.Reading.{word_is}
 use Rattle.sample_maker.proofs.sampling.traced.Goals as goal
 
 pub findings_of-requires-clause-bits : goal.findings_of-requires-clause-bits
@@ -33,10 +37,13 @@ pub returns-clause-summary : goal.returns-clause-summary
 unfolding found_in
 returns-clause-summary g c =
     c.in_ok-text.ensures ∙ ap (line_on c.args.number) (c.in_ok-found.ensures.findings
-    ∙ ap₂ (λ (e : Enrolment) (word : List (Option ℕ)). findings (roll_of e) word 3) c.in_ok-register.ensures c.in_ok-word.ensures.word)
+    ∙ ap₂ (λ (e : Enrolment) (word : List (Option ℕ)). findings (roll_of e) word 3) c.in_ok-register.ensures (c.in_ok-word.ensures.word ∙ sym (word_is c.args.number c.requires)))
 
 pub returns-in_err-text-clause-products : goal.returns-in_err-text-clause-products
 returns-in_err-text-clause-products g c = λ curve costs. omega (arith, c.copied_word.ensures.products, c.findings_of.ensures.products curve costs)
 
 pub returns-clause-traced : goal.returns-clause-traced
-returns-clause-traced g c = sample_traced c.args.number (subst IsValid c.in_ok-register.ensures c.len-licensees.ensures.valid)
+returns-clause-traced g c =
+    let number = c.args.number in
+    subst (λ (word : List (Option ℕ)). IsTraced (roll_of (register_of number)) word 3 (coalition number)) (sym (word_is number c.requires))
+    (sample_traced number (subst IsValid c.in_ok-register.ensures c.len-licensees.ensures.valid))
