@@ -1,7 +1,7 @@
 use Rattle.std.proofs.Common.{◌≡◌, ◌∙◌, Option, Some, Ok, map, refl, sym, ap, subst}
 use Rattle.std.specs.String.{string_bytes}
 use Rattle.cli_words.specs.Requests.{request}
-use Rattle.outcome_terms.specs.Request.{Request, Make, Accuse}
+use Rattle.outcome_terms.specs.Request.{Request, Make, Trace, Accuse}
 use Rattle.outcome_terms.specs.RegisterCommand.{make}
 use Rattle.outcome_terms.specs.Stores.{Exactly, store}
 use Rattle.outcome_terms.specs.Commands.{deed, request_of}
@@ -40,3 +40,17 @@ returns-in_ok-text-in-Accuse-clause-steps g c =
     ap (λ command. Some (request command)) (sym c.in-Accuse.is) ∙ c.in-Some.ensures.asked in
     subst (λ (asked : Option Request). SpendsAtMost (curve_costs g.I.Interpolate.cost) (trace_made asked) (store g.S.Shelf.holds g.S.Shelf.counts c.args.shelf.now)
     (record { products = c.args.prods.now; looks = c.args.looks.now }) (record { products = c.accuse.new.prods; looks = c.accuse.new.looks })) asked c.accuse.ensures.steps
+
+pub returns-in_err-text-in-Trace-clause-steps : goal.returns-in_err-text-in-Trace-clause-steps
+returns-in_err-text-in-Trace-clause-steps g c =
+    let asked : Some (Trace c.in-Trace.title.now c.in-Trace.reg.now c.in-Trace.copy.now c.in-Trace.c) ≡ request_of (map string_bytes c.args.words.now) =
+    ap (λ command. Some (request command)) (sym c.in-Trace.is) ∙ c.in-Some.ensures.asked in
+    subst (λ (asked : Option Request). SpendsAtMost (curve_costs g.I.Interpolate.cost) (trace_made asked) (store g.S.Shelf.holds g.S.Shelf.counts c.args.shelf.now)
+    (record { products = c.args.prods.now; looks = c.args.looks.now }) (record { products = c.trace.new.prods; looks = c.trace.new.looks })) asked c.trace.ensures.steps
+
+pub returns-in_ok-text-in-Trace-clause-steps : goal.returns-in_ok-text-in-Trace-clause-steps
+returns-in_ok-text-in-Trace-clause-steps g c =
+    let asked : Some (Trace c.in-Trace.title.now c.in-Trace.reg.now c.in-Trace.copy.now c.in-Trace.c) ≡ request_of (map string_bytes c.args.words.now) =
+    ap (λ command. Some (request command)) (sym c.in-Trace.is) ∙ c.in-Some.ensures.asked in
+    subst (λ (asked : Option Request). SpendsAtMost (curve_costs g.I.Interpolate.cost) (trace_made asked) (store g.S.Shelf.holds g.S.Shelf.counts c.args.shelf.now)
+    (record { products = c.args.prods.now; looks = c.args.looks.now }) (record { products = c.trace.new.prods; looks = c.trace.new.looks })) asked c.trace.ensures.steps
