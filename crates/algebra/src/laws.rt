@@ -91,7 +91,8 @@ pub fn laws_of_derivatives<F>()
     ensures expansion { (ring : Ring F) (m d : ℕ) (q : Bivariate F) (a b : F) → IsWithin m d q
         → (i j : ℕ) →
         coefficient ring q i j
-        ≡ sum_below ring m (λ u. sum_below ring d (λ v. ring.times (hasse_derivative ring q u v a b) (ring.times (linear_power ring a u i) (linear_power ring b v j)))) }
+        ≡ sum_below ring m
+        (λ u. sum_below ring d (λ v. ring.times (hasse_derivative ring q u v a b) (ring.times (linear_power ring a u i) (linear_power ring b v j)))) }
     // where Q has multiplicity at least s at (a, f(a)), (x + a)^s divides Q(x, f(x))
     ensures division { (ring : Ring F) → IsField ring
         → (q : Bivariate F) (n s : ℕ) (f : ℕ → F) (a : F) → IsBelow ring n f

@@ -43,6 +43,7 @@ struct Job {
     ghost few_points: { r ≤ 1024 },
 }
 
+/// What a word asks to be done.
 fn read_work(word: &str) -> Option<Work> {
     match word {
         "points" => Some(Work::Points),
@@ -54,6 +55,7 @@ fn read_work(word: &str) -> Option<Work> {
     }
 }
 
+/// The job that a line says.
 fn read_job(line: &str) -> Option<Job> {
     let mut words = line.split(' ');
     let work = read_work(words.next()?)?;
@@ -79,6 +81,7 @@ fn next(number: &mut u32) -> u32 {
     *number >> 8
 }
 
+/// The element of this number, or zero where there is none.
 fn element<F: Field>(number: u32) -> F {
     F::of((number % 256) as u8).unwrap_or(F::zero())
 }
@@ -115,6 +118,7 @@ fn coalition<F: Field, P: Ledger>(
     Ok(points)
 }
 
+/// The sum with one more number.
 fn with_number(sum: u64, number: u64) -> u64 {
     sum.wrapping_mul(31).wrapping_add(number)
 }
@@ -181,6 +185,7 @@ fn slices<F: Field, P: Ledger>(
     Ok(xs[0].to() as u64)
 }
 
+/// Does the job, and gives a number that hangs on all that it computed.
 fn run<P: Ledger>(alloc: Global, job: Job, blank: Blank) -> Result<u64, Memory>
     requires name { blank.name ≡ P.name }
     requires parts { blank.parts ≡ P.parts }
@@ -202,6 +207,7 @@ fn run<P: Ledger>(alloc: Global, job: Job, blank: Blank) -> Result<u64, Memory>
     Ok(sum)
 }
 
+/// Reads jobs from standard input, a line each, and prints the number of each.
 fn main(rt: HostRuntime) -> io::Result<()> {
     for line in rt.lines(rt.alloc()) {
         let Some(job) = read_job(line?.as_str()) else {

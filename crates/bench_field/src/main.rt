@@ -20,6 +20,7 @@ struct Job {
     rounds: u32,
 }
 
+/// The job that a line says.
 fn read_job(line: &str) -> Option<Job> {
     let mut words = line.split(' ');
     let bits = words.next()?.parse::<u32>().ok()?;
@@ -73,6 +74,7 @@ fn slices<F: Field, P: Ledger>(xs: &mut [F], ys: &[F], rounds: u32, prods: &mut 
     }
 }
 
+/// A number that hangs on all elements.
 fn checksum<F: Field>(xs: &[F]) -> u32 {
     let mut sum: u32 = 0;
     for x in xs {
@@ -81,6 +83,7 @@ fn checksum<F: Field>(xs: &[F]) -> u32 {
     sum
 }
 
+/// Does the job over one field.
 fn run<F: Field, P: Ledger>(
     alloc: Global,
     job: Job,
@@ -98,6 +101,7 @@ fn run<F: Field, P: Ledger>(
     Ok(checksum(&xs))
 }
 
+/// Does the job over the field that it names.
 fn run_in_field<P: Ledger>(alloc: Global, job: Job, blank: Blank) -> Result<u32, AllocError>
     requires name { blank.name ≡ P.name }
     requires parts { blank.parts ≡ P.parts }
@@ -113,6 +117,7 @@ fn run_in_field<P: Ledger>(alloc: Global, job: Job, blank: Blank) -> Result<u32,
     }
 }
 
+/// Reads jobs from standard input, a line each, and prints the checksum of each.
 fn main(rt: HostRuntime) -> io::Result<()> {
     for line in rt.lines(rt.alloc()) {
         let Some(job) = read_job(line?.as_str()) else {

@@ -8,6 +8,7 @@ use shelf_terms::BLOB_LIMIT;
 use std::process::ExitCode;
 use texts::number_text;
 
+/// Ends with 0 where the number was put out.
 fn main(rt: HostRuntime) -> ExitCode {
     ExitCode::from(answered(rt))
 }

@@ -35,6 +35,7 @@ struct Job {
     ghost few_columns: { columns ≤ 10000 },
 }
 
+/// What a word asks to be done.
 fn read_work(word: &str) -> Option<Work> {
     match word {
         "fill" => Some(Work::Fill),
@@ -44,6 +45,7 @@ fn read_work(word: &str) -> Option<Work> {
     }
 }
 
+/// The job that a line says.
 fn read_job(line: &str) -> Option<Job> {
     let mut words = line.split(' ');
     let bits = words.next()?.parse::<u32>().ok()?;
@@ -90,10 +92,12 @@ fn filled<F: Field>(alloc: Global, job: Job, number: &mut u32) -> Result<Matrix<
     Ok(matrix)
 }
 
+/// The sum with one more number.
 fn with_number(sum: u64, number: u64) -> u64 {
     sum.wrapping_mul(31).wrapping_add(number)
 }
 
+/// The sum with all elements.
 fn with_elements<F: Field>(sum: u64, elements: &[F]) -> u64 {
     let mut sum = sum;
     for element in elements {
@@ -124,6 +128,7 @@ fn one_round<F: Field, P: Ledger>(
     }
 }
 
+/// Does the job over one field.
 fn run<F: Field, P: Ledger>(alloc: Global, job: Job, prods: &mut Steps<P>) -> Result<u64, Memory> {
     let mut sum: u64 = 0;
     let mut number: u32 = 1;
@@ -133,6 +138,7 @@ fn run<F: Field, P: Ledger>(alloc: Global, job: Job, prods: &mut Steps<P>) -> Re
     Ok(sum)
 }
 
+/// Does the job over the field that it names.
 fn run_in_field<P: Ledger>(alloc: Global, job: Job, blank: Blank) -> Result<u64, Memory>
     requires name { blank.name ≡ P.name }
     requires parts { blank.parts ≡ P.parts }
@@ -148,6 +154,7 @@ fn run_in_field<P: Ledger>(alloc: Global, job: Job, blank: Blank) -> Result<u64,
     }
 }
 
+/// Reads jobs from standard input, a line each, and prints the number of each.
 fn main(rt: HostRuntime) -> io::Result<()> {
     for line in rt.lines(rt.alloc()) {
         let Some(job) = read_job(line?.as_str()) else {

@@ -10,6 +10,7 @@ use std::process::ExitCode;
 use texts::number_text;
 use title_store::{BLOB_LIMIT, Title, digest_of};
 
+/// Ends with 0 where the number was put out.
 fn main(rt: HostRuntime) -> ExitCode {
     ExitCode::from(answered(rt))
 }

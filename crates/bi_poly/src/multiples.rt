@@ -68,7 +68,8 @@ fn add_rows<F: Field, P: Ledger>(
     requires room { HaveRoom F.ring others.now count rows.old.items }
     ensures sums { (i j : ℕ) → j < count →
         cell F.ring rows.new.items i j
-        ≡ F.ring.plus (cell F.ring rows.old.items i j) (F.ring.times factor (cell F.ring others.now i j)) }
+        ≡ F.ring.plus (cell F.ring rows.old.items i j)
+        (F.ring.times factor (cell F.ring others.now i j)) }
     ensures same { (i j : ℕ) → count ≤ j
         → cell F.ring rows.new.items i j ≡ cell F.ring rows.old.items i j }
     ensures products { (most : ℕ → ℕ)

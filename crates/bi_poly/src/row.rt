@@ -23,6 +23,7 @@ impl<F: Field> Model for Row<F> {
 }
 
 impl<F: Field> Row<F> {
+    /// The row without coefficients.
     pub(crate) fn empty(alloc: Global) -> Row<F>
         ensures { result ≡ [] }
     {
@@ -47,6 +48,7 @@ impl<F: Field> Row<F> {
         Ok(Row { coefs })
     }
 
+    /// The coefficients, the one without x first; the last may be zero.
     pub(crate) fn as_slice(&self) -> &[F]
         ensures { result.now ≡ self.now }
     {

@@ -87,7 +87,8 @@ fn shifted_row<F: Field, P: Ledger>(
     ensures before { IfOk result (λ row. (k : ℕ) → k < h → coefficients F.ring row k ≡ F.ring.nil) }
     ensures from { (g : F) → ArePowers F.ring g powers.now → IfOk result (λ row. (k : ℕ) →
         coefficients F.ring row (h + k)
-        ≡ sum_below F.ring (length powers.now) (λ j. F.ring.times (cell F.ring rows.now k j) (weight F.ring g j h))) }
+        ≡ sum_below F.ring (length powers.now)
+        (λ j. F.ring.times (cell F.ring rows.now k j) (weight F.ring g j h))) }
     ensures products { (most : ℕ) → ((i j : ℕ) → most ≤ i → cell F.ring rows.now i j ≡ F.ring.nil)
         → prods.new ≤ prods.old + (length powers.now - 1) * most }
 {

@@ -29,7 +29,8 @@ impl<F: Field> BiPoly<F> {
 
     /// Q(0, y), as a polynomial in y. The only error is want of memory.
     pub fn at_zero(&self) -> Result<Poly<F>, Memory>
-        ensures value { IfOk result (λ p. IsListOf F.ring (λ j. coefficient F.ring self.now 0 j) p) }
+        ensures value { IfOk result
+            (λ p. IsListOf F.ring (λ j. coefficient F.ring self.now 0 j) p) }
         ensures limits { OnOk result (IsWithin 65536 4096 self.now) }
     {
         let mut column = Vec::with_capacity(self.alloc, self.rows.len())?;

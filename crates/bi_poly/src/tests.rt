@@ -124,6 +124,7 @@ const SUM_IN_16: &[Term] = &[
     (7, 5, 9),
 ];
 
+/// The polynomial of these terms.
 fn polynomial<F: Field>(alloc: Global, terms: &[Term]) -> Option<BiPoly<F>> {
     let mut sum = BiPoly::zero(alloc);
     for (i, j, number) in terms {
@@ -148,6 +149,7 @@ fn has<F: Field>(alloc: Global, found: &BiPoly<F>, terms: &[Term]) -> Option<boo
     Some(same_x && found.y_degree() == wanted.y_degree())
 }
 
+/// The polynomial in one variable with these coefficients, lowest first.
 fn list<F: Field>(alloc: Global, numbers: &[u8]) -> Option<Poly<F>> {
     let mut coefs = Vec::new(alloc);
     for number in numbers {

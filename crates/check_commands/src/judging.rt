@@ -40,7 +40,8 @@ pub(crate) fn judged<P: Ledger, Q: Ledger>(
     requires served { is_served title.now findings.now.bound ≡ true }
     requires places { length word.now ≡ places title.now.design }
     requires symbols { HasSymbolsBelow (symbols title.now.design) word.now }
-    ensures { Settles (seen (λ text. text.items) result) (judged register.now word.now findings.now) }
+    ensures { Settles (seen (λ text. text.items) result)
+        (judged register.now word.now findings.now) }
 {
     let _places = title.places();
     judged_word(alloc, register, word, findings, prods, looks)
@@ -60,7 +61,8 @@ fn judged_word<P: Ledger, Q: Ledger>(
     requires most { length word.now ≤ 2 ^ register.now.bits }
     requires symbols { HasSymbolsBelow (2 ^ register.now.bits) word.now }
     requires bound { is_allowed_bound register.now.dimension findings.now.bound ≡ true }
-    ensures { Settles (seen (λ text. text.items) result) (judged register.now word.now findings.now) }
+    ensures { Settles (seen (λ text. text.items) result)
+        (judged register.now word.now findings.now) }
 {
     let bound = findings.bound;
     let needed = bound * bound * (register.dimension() - 1);

@@ -93,7 +93,8 @@ fn register_from<'a>(
     out: &'a String,
 ) -> Option<Command<'a>>
     ensures asked { option_map request result
-        ≡ make_from (string_bytes m.now) (string_bytes k.now) (string_bytes a.now) (string_bytes b.now) (string_bytes out.now) }
+        ≡ make_from (string_bytes m.now) (string_bytes k.now) (string_bytes a.now)
+        (string_bytes b.now) (string_bytes out.now) }
     ensures names { IfSome result HasNames }
 {
     let m = number(m)?;

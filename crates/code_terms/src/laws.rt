@@ -50,7 +50,8 @@ pub fn words_are_their_tokens()
     ensures word { (m : ℕ) (bytes : List ℕ) (word : List (Option ℕ)) →
         (word_of m bytes ≡ Ok word) ↔ SpellWord (2 ^ m) (tokens_of bytes) word }
     ensures token { (m : ℕ) (bytes : List ℕ) (place : ℕ) →
-        (word_of m bytes ≡ Err (WordFault.Token place)) ↔ IsFirstBroken (2 ^ m) (tokens_of bytes) place }
+        (word_of m bytes ≡ Err (WordFault.Token place)) ↔ IsFirstBroken (2 ^ m)
+        (tokens_of bytes) place }
     ensures long { (m : ℕ) (bytes : List ℕ) →
         (word_of m bytes ≡ Err WordFault.Long) ↔ IsOverlong (2 ^ m) (tokens_of bytes) }
 {}

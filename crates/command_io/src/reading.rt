@@ -19,16 +19,19 @@ use std::alloc::Global;
 #[tactic(auto, using(outcome_terms::proofs::Readings::read_follows))]
 pub fn bytes_under<S: Shelf>(alloc: Global, shelf: &mut S, name: &str) -> Result<Vec<u8>, Refusal>
     requires { IsTrue (is_name name.now) }
-    ensures bytes { Follows (blob name.now) (store S.holds S.counts shelf.old) (store S.holds S.counts shelf.new)
+    ensures bytes { Follows (blob name.now) (store S.holds S.counts shelf.old)
+        (store S.holds S.counts shelf.new)
         (seen (λ bytes. bytes.items) result) }
     ensures short { IfOk result (λ bytes. length bytes.items ≤ BLOB_LIMIT) }
 {
     fetched(alloc, shelf, name)
 }
 
+/// One read of a blob, told as the refusal that it is.
 fn fetched<S: Shelf>(alloc: Global, shelf: &mut S, name: &str) -> Result<Vec<u8>, Refusal>
     requires { IsTrue (is_name name.now) }
-    ensures bytes { Reads name.now (store S.holds S.counts shelf.old) (store S.holds S.counts shelf.new)
+    ensures bytes { Reads name.now (store S.holds S.counts shelf.old)
+        (store S.holds S.counts shelf.new)
         (seen (λ bytes. bytes.items) result) }
     ensures short { IfOk result (λ bytes. length bytes.items ≤ BLOB_LIMIT) }
 {
@@ -49,12 +52,14 @@ pub fn register_under<S: Shelf>(
     name: &str,
 ) -> Result<Register, Refusal>
     requires { IsTrue (is_name name.now) }
-    ensures { Follows (register_under name.now) (store S.holds S.counts shelf.old) (store S.holds S.counts shelf.new) result }
+    ensures { Follows (register_under name.now) (store S.holds S.counts shelf.old)
+        (store S.holds S.counts shelf.new) result }
 {
     let bytes = bytes_under(alloc, shelf, name)?;
     register_of_bytes(alloc, bytes)
 }
 
+/// The register whose text the bytes are.
 fn register_of_bytes(alloc: Global, bytes: Vec<u8>) -> Result<Register, Refusal>
     ensures { Settles result (understood BadRegister (register_of bytes.items)) }
 {

@@ -33,7 +33,8 @@ pub fn write_text<S: Shelf>(
     ensures { (reading : Reading Writing) (writing : Writing) (first : Store)
         → Follows reading first (store S.holds S.counts shelf.old) (Ok writing)
         → IsWriting writing text.items
-        → Performs (Write out.now reading) first (store S.holds S.counts shelf.new) (left_text result) }
+        → Performs (Write out.now reading) first (store S.holds S.counts shelf.new)
+        (left_text result) }
 {
     match written(alloc, shelf, out, text) {
         Ok(()) => Ok(Done::Written),
@@ -41,9 +42,11 @@ pub fn write_text<S: Shelf>(
     }
 }
 
+/// One write of a text, told as the refusal that it is.
 fn written<S: Shelf>(alloc: Global, shelf: &mut S, out: &str, text: Vec<u8>) -> Result<(), Refusal>
     requires { IsTrue (is_name out.now) }
-    ensures { Writes out.now text.items (store S.holds S.counts shelf.old) (store S.holds S.counts shelf.new) result }
+    ensures { Writes out.now text.items (store S.holds S.counts shelf.old)
+        (store S.holds S.counts shelf.new) result }
 {
     match shelf.write(alloc, out, text.as_slice()) {
         Ok(()) => Ok(()),

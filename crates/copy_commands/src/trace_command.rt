@@ -42,12 +42,14 @@ pub fn trace<S: Shelf, I: Interpolate, P: Ledger, Q: Ledger>(
     requires title { IsTrue (is_name title.now) }
     requires register { IsTrue (is_name register.now) }
     requires copy { IsTrue (is_name copy.now) }
-    ensures report { Follows (trace title.now register.now copy.now c) (store S.holds S.counts shelf.old)
+    ensures report { Follows (trace title.now register.now copy.now c)
+        (store S.holds S.counts shelf.old)
         (store S.holds S.counts shelf.new)
         (seen (λ text. text.items) result) }
     ensures steps { Spends (curve_costs I.cost) (trace_trace title.now register.now copy.now c)
         (store S.holds S.counts shelf.old)
-        (record { products = prods.old; looks = looks.old }) (record { products = prods.new; looks = looks.new }) }
+        (record { products = prods.old; looks = looks.old })
+        (record { products = prods.new; looks = looks.new }) }
 {
     let title = title_under(alloc, shelf, title)?;
     let register = register_under(alloc, shelf, register)?;
@@ -80,7 +82,8 @@ fn report<I: Interpolate, P: Ledger, Q: Ledger>(
     ensures report { Settles (seen (λ text. text.items) result)
         (report register.now word.now bound) }
     ensures steps { IsWithin (curve_costs I.cost) (trace_at register.now.dimension word.now bound)
-        (record { products = prods.old; looks = looks.old }) (record { products = prods.new; looks = looks.new }) }
+        (record { products = prods.old; looks = looks.old })
+        (record { products = prods.new; looks = looks.new }) }
 {
     let _places = title.places();
     report_on(alloc, register, word, bound, by, prods, looks)

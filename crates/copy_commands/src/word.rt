@@ -27,7 +27,8 @@ pub fn word_shown<S: Shelf>(
     copy: &str,
 ) -> Result<Word, Refusal>
     requires { IsTrue (is_name copy.now) }
-    ensures word { Follows (word_shown title.now copy.now) (store S.holds S.counts shelf.old) (store S.holds S.counts shelf.new) result }
+    ensures word { Follows (word_shown title.now copy.now) (store S.holds S.counts shelf.old)
+        (store S.holds S.counts shelf.new) result }
     ensures places { IfOk result (λ word. length word ≡ places title.now.design) }
     ensures symbols { IfOk result (HasSymbolsBelow (symbols title.now.design)) }
 {
@@ -42,7 +43,8 @@ fn word_of<S: Shelf>(
     title: &Title,
     copy: &MediaList,
 ) -> Result<Word, Refusal>
-    ensures word { Follows (word_of_copy_under title.now copy.now) (store S.holds S.counts shelf.old) (store S.holds S.counts shelf.new) result }
+    ensures word { Follows (word_of_copy_under title.now copy.now)
+        (store S.holds S.counts shelf.old) (store S.holds S.counts shelf.new) result }
     ensures places { IfOk result (λ word. length word ≡ places title.now.design) }
     ensures symbols { IfOk result (HasSymbolsBelow (symbols title.now.design)) }
 {

@@ -29,7 +29,8 @@ pub fn match_copy<S: Shelf>(
 ) -> Result<Word, MatchError>
     // Where the blobs are told, the word of all segments, or which one is the first that cannot be read.
     ensures told { Matches (S.holds shelf.old) title.now copy.now result }
-    ensures reading { Follows (word_of_copy_under title.now copy.now) (store S.holds S.counts shelf.old)
+    ensures reading { Follows (word_of_copy_under title.now copy.now)
+        (store S.holds S.counts shelf.old)
         (store S.holds S.counts shelf.new) (by_name copy.now result) }
     ensures places { IfOk result (λ word. length word ≡ places title.now.design) }
     ensures symbols { IfOk result (HasSymbolsBelow (symbols title.now.design)) }
@@ -59,7 +60,8 @@ fn segment_digest<S: Shelf>(
 ) -> Result<Digest, FetchError>
     requires { IsTrue (is_name segment.now.uri) }
     ensures digest { DigestGives (S.holds shelf.old) segment.now.uri result }
-    ensures reads { ReadsDigest segment.now.uri (store S.holds S.counts shelf.old) (store S.holds S.counts shelf.new) result }
+    ensures reads { ReadsDigest segment.now.uri (store S.holds S.counts shelf.old)
+        (store S.holds S.counts shelf.new) result }
 {
     digest_of(alloc, shelf, segment.uri().as_str())
 }

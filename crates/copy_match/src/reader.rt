@@ -78,7 +78,8 @@ impl<'t> CopyReader<'t> {
     fn flags_at(&self, place: u32) -> &[bool]
         requires { place < places self.now.title.design }
         ensures flags { result.now ≡ slice_range self.now.flags
-            (place * symbols self.now.title.design) (place * symbols self.now.title.design + symbols self.now.title.design) }
+            (place * symbols self.now.title.design)
+            (place * symbols self.now.title.design + symbols self.now.title.design) }
         ensures long { length result.now ≡ symbols self.now.title.design }
     {
         let count = symbols(self.title);

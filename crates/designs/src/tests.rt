@@ -20,6 +20,7 @@ fn fault(alloc: Global, document: &[u8]) -> Option<DesignFault> {
     }
 }
 
+/// Compares each value of the design with those of the film.
 fn is_film(rt: &impl Abort, alloc: Global, design: &Design) -> Result<(), Fail> {
     assert_eq!(rt; design.name().as_str(), "film");
     assert_eq!(rt; design.prefix().as_str(), "v/");

@@ -63,7 +63,8 @@ fn high_products<const M: u32>(factor: u8) -> [u8; 16]
 fn sixteen_products(low: &[u8; 16], high: &[u8; 16], numbers: &[u8; 16]) -> [u8; 16]
     ensures { (k : ℕ) → k < 16 →
         slice_index result k
-        ≡ bit_xor (slice_index low.now (slice_index numbers.now k % 16)) (slice_index high.now (slice_index numbers.now k / 16 % 16)) }
+        ≡ bit_xor (slice_index low.now (slice_index numbers.now k % 16))
+        (slice_index high.now (slice_index numbers.now k / 16 % 16)) }
 {
     let numbers = u8x16::from_array(*numbers);
     let mask = u8x16::splat(15);

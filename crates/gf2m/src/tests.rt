@@ -8,23 +8,27 @@ use std::marker::Brand;
 use std::process::Abort;
 use std::sync::ledger::Blank;
 
+/// The product of two elements, by their numbers.
 fn times<F: Field, P: Ledger>(x: u8, y: u8, prods: &mut Steps<P>) -> Option<u8> {
     let x = F::of(x)?;
     let y = F::of(y)?;
     Some(x.mul(y, prods).to())
 }
 
+/// The inverse of an element, by its number.
 fn inverse<F: Field, P: Ledger>(x: u8, prods: &mut Steps<P>) -> Option<u8> {
     let inverse = F::of(x)?.inv(prods)?;
     Some(inverse.to())
 }
 
+/// The sum of two elements, by their numbers.
 fn plus<F: Field>(x: u8, y: u8) -> Option<u8> {
     let x = F::of(x)?;
     let y = F::of(y)?;
     Some(x.add(y).to())
 }
 
+/// Products that were worked out apart.
 fn known_products<P: Ledger>(rt: &impl Abort, blank: Blank)
     requires name { blank.name ≡ P.name }
     requires parts { blank.parts ≡ P.parts }
@@ -46,6 +50,7 @@ fn multiplies(rt: HostRuntime) {
     known_products::<Brand>(&rt, Blank::new(1));
 }
 
+/// Inverses that were worked out apart.
 fn known_inverses<P: Ledger>(rt: &impl Abort, blank: Blank)
     requires name { blank.name ≡ P.name }
     requires parts { blank.parts ≡ P.parts }
@@ -68,6 +73,7 @@ fn inverts(rt: HostRuntime) {
     known_inverses::<Brand>(&rt, Blank::new(1));
 }
 
+/// The elements of these numbers.
 fn elements<F: Field>(alloc: Global, numbers: &[u8]) -> Option<Vec<F>> {
     let mut elements = Vec::new(alloc);
     for number in numbers {
@@ -96,6 +102,7 @@ fn adds_up_to<F: Field, P: Ledger>(
     Some(target == want)
 }
 
+/// Multiples of slices that were worked out apart.
 fn known_slices<P: Ledger>(rt: &impl Abort, alloc: Global, blank: Blank)
     requires name { blank.name ≡ P.name }
     requires parts { blank.parts ≡ P.parts }
@@ -152,6 +159,7 @@ fn adds_multiples(rt: HostRuntime) {
     known_slices::<Brand>(&rt, rt.alloc(), Blank::new(1));
 }
 
+/// The number of the element of a number.
 fn number_back<F: Field>(number: u8) -> Option<u8> {
     let element = F::of(number)?;
     Some(element.to())

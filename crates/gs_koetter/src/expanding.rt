@@ -38,11 +38,13 @@ pub(crate) fn expand<F: Field, P: Ledger>(
 )
     requires room { length table.old ≤ span }
     requires even { (width : ℕ) × (span ≡ 2 ^ length squares.now * width) }
-    ensures value { (a : F) (width : ℕ) → AreSquares F.ring a squares.now → span ≡ 2 ^ length squares.now * width
+    ensures value { (a : F) (width : ℕ) → AreSquares F.ring a squares.now
+        → span ≡ 2 ^ length squares.now * width
         → (u j : ℕ) → j < width → u * width + j < wanted → entry F.ring width table.new u j
         ≡ derivative F.ring (2 ^ length squares.now) (λ i. entry F.ring width table.old i j) a u }
     ensures length { length table.new ≡ length table.old }
-    ensures products { (width rows : ℕ) → span ≡ 2 ^ length squares.now * width → wanted ≤ rows * width
+    ensures products { (width rows : ℕ) → span ≡ 2 ^ length squares.now * width
+        → wanted ≤ rows * width
         → prods.new ≤ prods.old + rows * length table.old }
 {
     if wanted == 0 {

@@ -99,6 +99,7 @@ fn meets<F: Field, P: Ledger>(
     Some(degree < e && vanishes(&q, points, s, prods))
 }
 
+/// Finds the curves of the table, and compares each.
 fn finds<P: Ledger>(rt: &impl Abort, alloc: Global, blank: Blank)
     requires name { blank.name ≡ P.name }
     requires parts { blank.parts ≡ P.parts }

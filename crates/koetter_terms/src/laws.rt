@@ -11,7 +11,8 @@ ghost use Rattle.term_lists.specs.Places.{place};
 pub fn laws_of_steps<F>()
     ensures sum { (ring : Ring F) (m n : ℕ) (x : F) (q p : ℕ → ℕ → F) (a b : F) (u v : ℕ) →
         derivative_at ring m n (plus_multiple ring q x p) a b u v
-        ≡ ring.plus (derivative_at ring m n q a b u v) (ring.times x (derivative_at ring m n p a b u v)) }
+        ≡ ring.plus (derivative_at ring m n q a b u v)
+        (ring.times x (derivative_at ring m n p a b u v)) }
     ensures first { (ring : Ring F) (m n : ℕ) (c : F) (q : ℕ → ℕ → F)
         → ((j : ℕ) → IsBelow ring m (λ i. q i j))
         → ((j : ℕ) → IsBelow ring m (λ i. times_linear ring c q i j)) → (a b : F) (v : ℕ) →
@@ -21,7 +22,8 @@ pub fn laws_of_steps<F>()
         → ((j : ℕ) → IsBelow ring m (λ i. q i j))
         → ((j : ℕ) → IsBelow ring m (λ i. times_linear ring c q i j)) → (a b : F) (u v : ℕ) →
         derivative_at ring m n (times_linear ring c q) a b (suc u) v
-        ≡ ring.plus (derivative_at ring m n q a b u v) (ring.times (ring.plus c a) (derivative_at ring m n q a b (suc u) v)) }
+        ≡ ring.plus (derivative_at ring m n q a b u v)
+        (ring.times (ring.plus c a) (derivative_at ring m n q a b (suc u) v)) }
 {}
 
 /// The order of the terms: different terms have different places, and x keeps the order.

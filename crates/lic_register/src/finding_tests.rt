@@ -15,6 +15,7 @@ use steps::{Ledger, Steps};
 const THREE: &[u8] =
     b"register 1\nm 8\nk 13\na 20282409603651670423947251286013\nb 20282409603651670423947251286015\nlic0\nlic1\nlic2\n";
 
+/// Looks messages up, and compares the serials.
 fn finds<Q: Ledger>(rt: &impl Abort, alloc: Global, blank: Blank) -> Result<(), Fail>
     requires name { blank.name ≡ Q.name }
     requires parts { blank.parts ≡ Q.parts }

@@ -75,7 +75,8 @@ impl<'a> Lines<'a> {
         word: &[u8],
     ) -> Result<u128, LineFault<K>>
         requires room { self.old.number + 1 < 2 ^ 32 }
-        ensures found { Finds (λ n. n) result self.old self.new (row kinds (number_after word.now)) }
+        ensures found { Finds (λ n. n) result self.old self.new
+            (row kinds (number_after word.now)) }
         ensures counted { OnOk result (self.new.number ≡ self.old.number + 1) }
     {
         let text = self.next_line(kinds.missing, kinds.unended)?;

@@ -13,7 +13,8 @@ use std::alloc::{AllocError, Global};
 /// A column that is no pivot's.
 pub(crate) fn free_column<F: Field>(pivots: &[Pivot<F>], columns: usize) -> Option<usize>
     ensures some { IfSome result (λ free.
-        (free < columns) × ((j : ℕ) → j < length pivots.now → slice_index (columns_of pivots.now) j ≢ free)) }
+        (free < columns)
+        × ((j : ℕ) → j < length pivots.now → slice_index (columns_of pivots.now) j ≢ free)) }
     ensures none { IsNone result → (k : ℕ) → k < columns
         → ((j : ℕ) → j < length pivots.now → slice_index (columns_of pivots.now) j ≢ k) → ⊥ }
 {

@@ -67,6 +67,7 @@ fn rank_of<F: Field, P: Ledger>(
         .ok()
 }
 
+/// Kernels that were worked out apart.
 fn known_kernels<F: Field, P: Ledger>(rt: &impl Abort, alloc: Global, blank: Blank)
     requires name { blank.name ≡ P.name }
     requires parts { blank.parts ≡ P.parts }
@@ -83,6 +84,7 @@ fn known_kernels<F: Field, P: Ledger>(rt: &impl Abort, alloc: Global, blank: Bla
     );
 }
 
+/// Ranks that were worked out apart.
 fn known_ranks<F: Field, P: Ledger>(rt: &impl Abort, alloc: Global, blank: Blank)
     requires name { blank.name ≡ P.name }
     requires parts { blank.parts ≡ P.parts }

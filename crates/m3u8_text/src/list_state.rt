@@ -97,6 +97,7 @@ impl ListState {
         }
     }
 
+    /// Takes the version, which may come once.
     fn take_version(&mut self, value: Option<u32>) -> Result<(), PlaylistFault>
         requires { ForSome value (λ n. (1 ≤ n) × (n ≤ 65535)) }
         ensures { (before : List said.MediaLine) → self.old ≡ progress_of before
@@ -113,6 +114,7 @@ impl ListState {
         Ok(())
     }
 
+    /// Takes the target duration, which may come once.
     fn take_target(&mut self, value: Option<u64>) -> Result<(), PlaylistFault>
         ensures { (before : List said.MediaLine) → self.old ≡ progress_of before
             → Takes result before self.new (said.Target value) }
@@ -128,6 +130,7 @@ impl ListState {
         Ok(())
     }
 
+    /// Takes the number of the first segment, which may come once.
     fn take_sequence(&mut self, value: Option<u64>) -> Result<(), PlaylistFault>
         ensures { (before : List said.MediaLine) → self.old ≡ progress_of before
             → Takes result before self.new (said.Sequence value) }
@@ -143,6 +146,7 @@ impl ListState {
         Ok(())
     }
 
+    /// Takes the playlist's type, which has to be `VOD`.
     fn take_kind(&mut self, vod: bool) -> Result<(), PlaylistFault>
         ensures { (before : List said.MediaLine) → self.old ≡ progress_of before
             → Takes result before self.new (said.Kind vod) }
@@ -157,6 +161,7 @@ impl ListState {
         Ok(())
     }
 
+    /// Takes the end tag, which may come once.
     fn take_end(&mut self) -> Result<(), PlaylistFault>
         ensures { (before : List said.MediaLine) → self.old ≡ progress_of before
             → Takes result before self.new said.End }
@@ -168,6 +173,7 @@ impl ListState {
         Ok(())
     }
 
+    /// Takes a discontinuity, which stands before the next segment.
     fn take_cut(&mut self)
         ensures { (before : List said.MediaLine) → self.old ≡ progress_of before
             → self.new ≡ progress_of (said.Cut ∷ before) }
@@ -191,6 +197,7 @@ impl ListState {
         Ok(())
     }
 
+    /// Takes a URI, which ends a segment.
     fn take_uri(&mut self, alloc: Global, uri: &str) -> Result<(), LineError>
         requires { stands_as_uri uri.now ≡ true }
         ensures { (before : List said.MediaLine) → self.old ≡ progress_of before

@@ -82,6 +82,7 @@ impl MediaList {
         Ok(())
     }
 
+    /// Sets the version alone.
     pub(crate) fn set_version(&mut self, version: u32)
         requires low { 1 ≤ version }
         requires high { version ≤ 65535 }
@@ -90,12 +91,14 @@ impl MediaList {
         self.version = version;
     }
 
+    /// Sets the target duration alone, in seconds.
     pub(crate) fn set_target(&mut self, target: u64)
         ensures { self.new ≡ record self.old { target = target } }
     {
         self.target = target;
     }
 
+    /// Sets the number of the first segment alone.
     pub(crate) fn set_sequence(&mut self, sequence: u64)
         ensures { self.new ≡ record self.old { sequence = sequence } }
     {

@@ -21,20 +21,25 @@ ghost use Rattle.outcome_terms.specs.Stores.{Answers, Follows, Store};
 /// Readings that are followed one after the other are followed as a whole, none changes a blob, and where the blobs are told
 /// the answer is what the reading gives over them.
 pub fn readings_compose()
-    ensures goes_on { (reading : Reading (List ℕ)) (f : List ℕ → Reading (List ℕ)) (s t u : Store) (x : List ℕ) (answer : Result (List ℕ) Refusal)
-        → Follows reading s t (Ok x) → Follows (f x) t u answer → Follows (reading and_then f) s u answer }
-    ensures stops { (reading : Reading (List ℕ)) (f : List ℕ → Reading (List ℕ)) (s t : Store) (e : Refusal)
+    ensures goes_on { (reading : Reading (List ℕ)) (f : List ℕ → Reading (List ℕ)) (s t u : Store)
+        (x : List ℕ) (answer : Result (List ℕ) Refusal)
+        → Follows reading s t (Ok x) → Follows (f x) t u answer
+        → Follows (reading and_then f) s u answer }
+    ensures stops { (reading : Reading (List ℕ)) (f : List ℕ → Reading (List ℕ)) (s t : Store)
+        (e : Refusal)
         → Follows reading s t (Err e) → Follows (reading and_then f) s t (Err e) }
     ensures keeps { (reading : Reading (List ℕ)) (s t : Store) (answer : Result (List ℕ) Refusal)
         → Follows reading s t answer → t.told ≡ s.told }
-    ensures decided { (reading : Reading (List ℕ)) (s t : Store) (answer : Result (List ℕ) Refusal) (blobs : Blobs)
+    ensures decided { (reading : Reading (List ℕ)) (s t : Store)
+        (answer : Result (List ℕ) Refusal) (blobs : Blobs)
         → s.told ≡ Some blobs → Follows reading s t answer → Answers answer (given blobs reading) }
 {}
 
 /// Words that are commands, and words that are none: too few, too many, a number with a leading zero or a sign, a name with a
 /// line feed, an unknown command, and no word at all.
 pub fn worked_examples()
-    ensures make { request_of (codes "register" ∷ codes "4" ∷ codes "2" ∷ codes "1" ∷ codes "0" ∷ codes "r" ∷ [])
+    ensures make { request_of
+        (codes "register" ∷ codes "4" ∷ codes "2" ∷ codes "1" ∷ codes "0" ∷ codes "r" ∷ [])
         ≡ Some (Make 4 2 1 0 (codes "r")) }
     ensures enrol { request_of (codes "enrol" ∷ codes "r0" ∷ codes "lic0" ∷ codes "r1" ∷ [])
         ≡ Some (Enrol (codes "r0") (codes "lic0") (codes "r1")) }
@@ -42,20 +47,27 @@ pub fn worked_examples()
         ≡ Some (Withdraw (codes "r0") (codes "lic0") (codes "r1")) }
     ensures title { request_of (codes "title" ∷ codes "d" ∷ codes "s" ∷ codes "t" ∷ [])
         ≡ Some (MakeTitle (codes "d") (codes "s") (codes "t")) }
-    ensures package { request_of (codes "package" ∷ codes "t" ∷ codes "reg" ∷ codes "lic0" ∷ codes "o" ∷ [])
+    ensures package { request_of
+        (codes "package" ∷ codes "t" ∷ codes "reg" ∷ codes "lic0" ∷ codes "o" ∷ [])
         ≡ Some (Package (codes "t") (codes "reg") (codes "lic0") (codes "o")) }
-    ensures trace { request_of (codes "trace" ∷ codes "t" ∷ codes "reg" ∷ codes "copy" ∷ codes "3" ∷ [])
+    ensures trace { request_of
+        (codes "trace" ∷ codes "t" ∷ codes "reg" ∷ codes "copy" ∷ codes "3" ∷ [])
         ≡ Some (Trace (codes "t") (codes "reg") (codes "copy") 3) }
-    ensures check { request_of (codes "check" ∷ codes "t" ∷ codes "reg" ∷ codes "copy" ∷ codes "rep" ∷ [])
+    ensures check { request_of
+        (codes "check" ∷ codes "t" ∷ codes "reg" ∷ codes "copy" ∷ codes "rep" ∷ [])
         ≡ Some (Check (codes "t") (codes "reg") (codes "copy") (codes "rep")) }
     ensures accuse { request_of (codes "accuse" ∷ codes "reg" ∷ codes "w" ∷ codes "3" ∷ [])
         ≡ Some (Accuse (codes "reg") (codes "w") 3) }
     ensures too_few { request_of (codes "accuse" ∷ codes "reg" ∷ codes "w" ∷ []) ≡ None }
-    ensures too_many { request_of (codes "enrol" ∷ codes "r0" ∷ codes "lic0" ∷ codes "r1" ∷ codes "r2" ∷ []) ≡ None }
-    ensures leading_zero { request_of (codes "accuse" ∷ codes "reg" ∷ codes "w" ∷ codes "03" ∷ []) ≡ None }
+    ensures too_many { request_of
+        (codes "enrol" ∷ codes "r0" ∷ codes "lic0" ∷ codes "r1" ∷ codes "r2" ∷ []) ≡ None }
+    ensures leading_zero { request_of (codes "accuse" ∷ codes "reg" ∷ codes "w" ∷ codes "03" ∷ [])
+        ≡ None }
     ensures signed { request_of (codes "accuse" ∷ codes "reg" ∷ codes "w" ∷ codes "-" ∷ []) ≡ None }
-    ensures broken_name { request_of (codes "enrol" ∷ codes "r0" ∷ codes "a\nb" ∷ codes "r1" ∷ []) ≡ None }
-    ensures unknown { request_of (codes "follow" ∷ codes "reg" ∷ codes "w" ∷ codes "3" ∷ []) ≡ None }
+    ensures broken_name { request_of (codes "enrol" ∷ codes "r0" ∷ codes "a\nb" ∷ codes "r1" ∷ [])
+        ≡ None }
+    ensures unknown { request_of (codes "follow" ∷ codes "reg" ∷ codes "w" ∷ codes "3" ∷ [])
+        ≡ None }
     ensures no_words { request_of [] ≡ None }
 {}
 
@@ -63,17 +75,25 @@ pub fn worked_examples()
 /// marked numbers.
 pub fn worked_details()
     ensures weak { fault_line (BadDesign TooWeak) ≡ says statuses.BadDesign (codes "too-weak") }
-    ensures missing { fault_line (BadDesign (Missing keys.M)) ≡ says statuses.BadDesign (codes "missing m") }
-    ensures wrong_type { fault_line (BadDesign (WrongType keys.Marked)) ≡ says statuses.BadDesign (codes "wrong-type marked") }
-    ensures marked { fault_line (BadDesign (BadMarked 1)) ≡ says statuses.BadDesign (codes "bad-marked 1") }
-    ensures uri { fault_line (BadPlaylist (at_line 3 NoUri)) ≡ says statuses.BadPlaylist (codes "3 no-uri") }
-    ensures target { fault_line (BadPlaylist (at_line 0 NoTarget)) ≡ says statuses.BadPlaylist (codes "0 no-target") }
+    ensures missing { fault_line (BadDesign (Missing keys.M))
+        ≡ says statuses.BadDesign (codes "missing m") }
+    ensures wrong_type { fault_line (BadDesign (WrongType keys.Marked))
+        ≡ says statuses.BadDesign (codes "wrong-type marked") }
+    ensures marked { fault_line (BadDesign (BadMarked 1))
+        ≡ says statuses.BadDesign (codes "bad-marked 1") }
+    ensures uri { fault_line (BadPlaylist (at_line 3 NoUri))
+        ≡ says statuses.BadPlaylist (codes "3 no-uri") }
+    ensures target { fault_line (BadPlaylist (at_line 0 NoTarget))
+        ≡ says statuses.BadPlaylist (codes "0 no-target") }
     ensures form { fault_line (BadTitle (fault 4 Form)) ≡ says statuses.BadTitle (codes "4 form") }
     ensures mismatch { fault_line (Mismatch 4 2 4 3) ≡ says statuses.Mismatch (codes "4 2 4 3") }
-    ensures duplicate { fault_line (Duplicate 2 5 3 10) ≡ says statuses.Duplicate (codes "2 5 3 10") }
+    ensures duplicate { fault_line (Duplicate 2 5 3 10)
+        ≡ says statuses.Duplicate (codes "2 5 3 10") }
     ensures report { fault_line BadReport ≡ says statuses.BadReport (codes "report") }
-    ensures readable { fault_line (Differs WrongReadable) ≡ says statuses.Differs (codes "wrong-readable") }
-    ensures places { fault_line (Differs (WrongPlaces 0)) ≡ says statuses.Differs (codes "wrong-places 0") }
+    ensures readable { fault_line (Differs WrongReadable)
+        ≡ says statuses.Differs (codes "wrong-readable") }
+    ensures places { fault_line (Differs (WrongPlaces 0))
+        ≡ says statuses.Differs (codes "wrong-places 0") }
     ensures absent { fault_line (Differs (Absent 16)) ≡ says statuses.Differs (codes "absent 16") }
     ensures segment { fault_line (NoSegment 12) ≡ says statuses.NoSegment (codes "12") }
 {}

@@ -114,7 +114,8 @@ fn add_variant<S: Shelf>(
 /// The digest of the blob under a name.
 fn digest_under<S: Shelf>(alloc: Global, shelf: &mut S, name: &str) -> Result<Digest, PackError>
     requires { IsTrue (is_name name.now) }
-    ensures { HashesAs name.now (store S.holds S.counts shelf.old) (store S.holds S.counts shelf.new)
+    ensures { HashesAs name.now (store S.holds S.counts shelf.old)
+        (store S.holds S.counts shelf.new)
         result }
 {
     match digest_of(alloc, shelf, name) {

@@ -50,6 +50,7 @@ fn enrol(register: &mut Register, name: &str) -> Result<(), Refusal>
     }
 }
 
+/// The refusal of a name that is not enrolled.
 fn refused(why: NameRefusal) -> Refusal
     ensures { result ≡ Refusal.Content (Fault.NotEnrolled why) }
 {

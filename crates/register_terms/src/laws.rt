@@ -36,7 +36,8 @@ pub fn worked_examples()
         ≡ Err (fault 6 BadStatus) }
     ensures no_state_and_cut { register_of (codes "register 2\nm 4\nk 2\na 1\nb 0\nlic0")
         ≡ Err (fault 6 Ending) }
-    ensures state_in_an_older_one { register_of (codes "register 1\nm 4\nk 2\na 1\nb 0\nactive lic0\n")
+    ensures state_in_an_older_one { register_of
+        (codes "register 1\nm 4\nk 2\na 1\nb 0\nactive lic0\n")
         ≡ Err (fault 6 BadName) }
     ensures taken { register_of (codes
         "register 2\nm 4\nk 2\na 1\nb 0\nactive lic0\nwithdrawn lic0\n") ≡ Err (fault 7 NameTaken) }

@@ -33,7 +33,8 @@ pub fn worked_readings()
     ensures point { report_of (codes "{\"accused\":[],\"bound\":1.0,\"readable\":2}") ≡ None }
     ensures exponent { report_of (codes "{\"accused\":[],\"bound\":1e0,\"readable\":2}") ≡ None }
     ensures minus { report_of (codes "{\"accused\":[],\"bound\":1,\"readable\":-0}") ≡ None }
-    ensures large { report_of (codes "{\"accused\":[],\"bound\":1,\"readable\":4294967296}") ≡ None }
+    ensures large { report_of (codes "{\"accused\":[],\"bound\":1,\"readable\":4294967296}")
+        ≡ None }
     ensures name { report_of (codes "{\"accused\":[{\"name\":\"a b\",\"places\":[],\"serial\":0}],\"bound\":1,\"readable\":2}") ≡ None }
 {}
 
@@ -49,7 +50,8 @@ pub fn worked_verdicts()
         (record { readable = 9; bound = 3; accused = [] }) ≡ verdicts.WrongReadable }
     ensures nobody { verdict twenty three_colluders (found (licensee 20 [] ∷ []))
         ≡ verdicts.NotEnrolled 0 }
-    ensures name { verdict twenty three_colluders (found (first ∷ record second { name = codes "lic0" } ∷ []))
+    ensures name { verdict twenty three_colluders
+        (found (first ∷ record second { name = codes "lic0" } ∷ []))
         ≡ verdicts.NotEnrolled 1 }
     ensures order { verdict twenty three_colluders (found (second ∷ first ∷ third ∷ []))
         ≡ verdicts.Order 1 }

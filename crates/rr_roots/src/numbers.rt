@@ -31,10 +31,12 @@ pub fn numbered<F: Field>(alloc: Global, lists: &[Elements<F>]) -> Result<Vec<En
     Ok(entries)
 }
 
+/// The list with its number, by which entries are put in order.
 fn entry_of<F: Field>(alloc: Global, list: &[F]) -> Result<Entry<F>, Memory>
     requires { length list.now ≤ 13 }
     ensures number { IfOk result (λ entry. entry.number ≡ number_of F.number F.Q entry.root) }
-    ensures root { IfOk result (λ entry. IsListOf F.ring (coefficients F.ring list.now) entry.root) }
+    ensures root { IfOk result
+        (λ entry. IsListOf F.ring (coefficients F.ring list.now) entry.root) }
 {
     let root = Poly::from(alloc, list)?;
     Ok(Entry {

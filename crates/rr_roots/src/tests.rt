@@ -244,6 +244,7 @@ const IN_256: &[Curve] = &[
     },
 ];
 
+/// The polynomial of these terms.
 fn polynomial<F: Field>(alloc: Global, terms: &[Term]) -> Option<BiPoly<F>> {
     let mut whole = BiPoly::zero(alloc);
     for (i, j, number) in terms {
@@ -255,6 +256,7 @@ fn polynomial<F: Field>(alloc: Global, terms: &[Term]) -> Option<BiPoly<F>> {
     Some(whole)
 }
 
+/// Whether these are the coefficients of the root, lowest first.
 fn has_numbers<F: Field>(root: &Poly<F>, numbers: &[u8]) -> bool {
     let coefs = root.as_slice();
     if coefs.len() != numbers.len() {
@@ -290,6 +292,7 @@ fn has_roots<F: Field, P: Ledger>(
     Some(true)
 }
 
+/// Roots that were worked out apart.
 fn known_roots<P: Ledger>(rt: &impl Abort, alloc: Global, blank: Blank)
     requires name { blank.name ≡ P.name }
     requires parts { blank.parts ≡ P.parts }

@@ -22,6 +22,7 @@ const THREE_COLLUDERS: [Option<u8>; 10] = [
     Some(1),
 ];
 
+/// Whether these are the symbols of the word.
 fn holds(word: &Word, slots: &[Option<u8>]) -> bool {
     if word.len() as usize != slots.len() {
         return false;
@@ -34,6 +35,7 @@ fn holds(word: &Word, slots: &[Option<u8>]) -> bool {
     true
 }
 
+/// Whether the text is read as the word of these symbols.
 fn reads(alloc: Global, text: &[u8], slots: &[Option<u8>]) -> bool {
     if text.len() > 100 {
         return false;
@@ -52,6 +54,7 @@ fn reads_words(rt: HostRuntime) {
     assert!(&rt; reads(alloc, b"-", &[None]));
 }
 
+/// Why the text is no word.
 fn fault(alloc: Global, text: &[u8]) -> Option<WordFault> {
     if text.len() > 100 {
         return None;
@@ -70,6 +73,7 @@ fn names_the_first_fault(rt: HostRuntime) {
     assert!(&rt; fault(alloc, b"0,0,0,0,0,0,0,0,0,0,0,0,0,0,0,0,0") == Some(WordFault::Long));
 }
 
+/// The message of these coefficients.
 fn message_of<F: Field>(alloc: Global, code: &Code<F>, numbers: &[u8]) -> Option<Message>
     ensures { IfSome result (λ message. message < 2 ^ (F.BITS * code.now.dimension)) }
 {
@@ -84,6 +88,7 @@ fn message_of<F: Field>(alloc: Global, code: &Code<F>, numbers: &[u8]) -> Option
     Some(code.pack(&elements))
 }
 
+/// Whether these are the symbols of the message's codeword.
 fn has_codeword<F: Field, P: Ledger>(
     alloc: Global,
     numbers: &[u8],
@@ -96,6 +101,7 @@ fn has_codeword<F: Field, P: Ledger>(
     Some(holds(&word, slots))
 }
 
+/// Codewords that were worked out apart.
 fn known_codewords<P: Ledger>(rt: &impl Abort, alloc: Global, blank: Blank)
     requires name { blank.name ≡ P.name }
     requires parts { blank.parts ≡ P.parts }
@@ -138,6 +144,7 @@ fn has_places<P: Ledger>(
     Some(found.as_slice() == places && count == places.len() && word.readable() == 10)
 }
 
+/// Agreeing places that were worked out apart.
 fn known_places<P: Ledger>(rt: &impl Abort, alloc: Global, blank: Blank)
     requires name { blank.name ≡ P.name }
     requires parts { blank.parts ≡ P.parts }

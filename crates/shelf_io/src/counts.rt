@@ -25,6 +25,7 @@ impl Model for Counts {
 }
 
 impl Counts {
+    /// Nothing was counted.
     pub(crate) fn new() -> Self
         ensures { result ≡ no_counts }
     {

@@ -12,12 +12,14 @@ pub(crate) fn leaves_folder(name: &str) -> bool
     begins_at_root(name) || has_parent_part(name)
 }
 
+/// Whether the name begins with a slash.
 fn begins_at_root(name: &str) -> bool
     ensures { result ≡ (slice_index name.now 0 == 47) }
 {
     name.as_bytes().first() == Some(&b'/')
 }
 
+/// Whether one of the parts between slashes is `..`.
 fn has_parent_part(name: &str) -> bool
     ensures { result ≡ list_any (λ part. bytes_eq part (codes "..")) (name_parts name.now) }
 {

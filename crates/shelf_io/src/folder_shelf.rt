@@ -125,6 +125,7 @@ impl<R: Files + Drop> Shelf for FolderShelf<R> {
     }
 }
 
+/// The path of a name below the folder.
 fn path_of(alloc: Global, folder: &str, name: &str) -> Result<String, AllocError> {
     let mut path = String::from_str(alloc, folder)?;
     path.push('/')?;

@@ -22,6 +22,7 @@ impl Model for NameBuffer {
 }
 
 impl NameBuffer {
+    /// A buffer with the empty name.
     pub(crate) fn new() -> Self
         ensures { result ≡ [] }
     {
@@ -31,6 +32,7 @@ impl NameBuffer {
         }
     }
 
+    /// Puts this name in place of the one before.
     pub(crate) fn set(&mut self, name: &str)
         requires { length name.now ≤ 1024 }
         ensures { self.new ≡ name.now }

@@ -64,6 +64,7 @@ impl<W: Write + Drop> Sink for StdSink<W> {
     }
 }
 
+/// Writes all bytes, call by call of the writer.
 #[tactic(auto, using(crate::proofs::KnownBytes::appends_kept))]
 fn write_whole<W: Write>(writer: &mut W, bytes: &[u8]) -> io::Result<()>
     ensures { OnOk result (Appends (W.contents writer.old) (W.contents writer.new) bytes.now) }

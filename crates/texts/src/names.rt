@@ -24,12 +24,14 @@ pub fn is_plain(text: &str) -> bool
     !bytes.is_empty() && bytes.len() <= LONGEST_PLAIN_NAME && all_plain(bytes)
 }
 
+/// Whether no byte is a control character.
 fn all_printable(bytes: &[u8]) -> bool
     ensures { result ≡ list_all is_printable bytes.now }
 {
     bytes.iter().all(|byte| *byte >= b' ' && *byte != 0x7f)
 }
 
+/// Whether each byte may stand in a plain name.
 fn all_plain(bytes: &[u8]) -> bool
     ensures { result ≡ list_all is_plain_character bytes.now }
 {

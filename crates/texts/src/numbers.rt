@@ -37,6 +37,7 @@ fn is_numeral(bytes: &[u8]) -> bool
     (*first != b'0' || bytes.len() == 1) && all_digits(bytes)
 }
 
+/// Whether each byte is a decimal digit.
 fn all_digits(bytes: &[u8]) -> bool
     ensures { result ≡ list_all is_ascii_digit bytes.now }
 {

@@ -166,12 +166,14 @@ pub fn faults_of_documents()
     ensures not_closed { designed (film_with 6 (codes "marked = [0")) ≡ Err NotToml }
     ensures empty { design_of [] ≡ Err (Missing keys.Name) }
     ensures missing { map (λ key. designed (film_with key [])) (range_with_len 0 7)
-        ≡ map (λ key. Err (Missing key)) (keys.Name ∷ keys.M ∷ keys.K ∷ keys.C ∷ keys.Prefix ∷ keys.Suffix ∷ keys.Marked ∷ []) }
+        ≡ map (λ key. Err (Missing key))
+        (keys.Name ∷ keys.M ∷ keys.K ∷ keys.C ∷ keys.Prefix ∷ keys.Suffix ∷ keys.Marked ∷ []) }
     ensures wrong_type { map designed (film_with 0 (codes "name = 1")
         ∷ film_with 1 (codes "m = 4.0") ∷ film_with 2 (codes "k = \"2\"")
         ∷ film_with 3 (codes "c = true") ∷ film_with 4 (codes "prefix = []")
         ∷ film_with 5 (codes "suffix.x = \".ts\"") ∷ film_with 6 (codes "marked = 0") ∷ [])
-        ≡ map (λ key. Err (WrongType key)) (keys.Name ∷ keys.M ∷ keys.K ∷ keys.C ∷ keys.Prefix ∷ keys.Suffix ∷ keys.Marked ∷ []) }
+        ≡ map (λ key. Err (WrongType key))
+        (keys.Name ∷ keys.M ∷ keys.K ∷ keys.C ∷ keys.Prefix ∷ keys.Suffix ∷ keys.Marked ∷ []) }
     ensures table { designed (film_with 1 (codes "m.x = 4")) ≡ Err (WrongType keys.M) }
 {}
 

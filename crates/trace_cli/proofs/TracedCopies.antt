@@ -36,6 +36,7 @@ pub trace_told : (old new : Option Blobs) (title register copy : List ℕ) (c : 
     → TellsTraceReport old title register copy c before.written after.written × (TracesExplained old title register copy c × TracesPackaged old title register copy c)
 trace_told None new title register copy c before after h = (tt, (tt, tt))
 trace_told (Some blobs) new title register copy c before after h =
-    let report = has_report blobs title register copy c new before after h in
-    (tells blobs title register copy c before.written after.written report,
-    (explained_traced blobs title register copy c report.text report.is_report, packaged_traced blobs title register copy c report.text report.is_report))
+    let report = has_report blobs title register copy c new before after h in (
+      tells blobs title register copy c before.written after.written report,
+      (explained_traced blobs title register copy c report.text report.is_report, packaged_traced blobs title register copy c report.text report.is_report),
+    )

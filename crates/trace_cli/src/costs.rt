@@ -13,5 +13,6 @@ pub const CURVES: Koetter = Koetter;
 /// What `main` hands in builds a curve point by point: for a word of at most n places it costs no more than the first term of
 /// `iterative_product_bound`, so `run` takes no more products than that (its clause `products_built`).
 pub fn curves_cost()
-    ensures { (n k c r : ℕ) → r ≤ n → CostsAtMost ⟦<Koetter as Interpolate>⟧.cost k c r (iterative_curve_bound n k c) }
+    ensures { (n k c r : ℕ) → r ≤ n
+        → CostsAtMost ⟦<Koetter as Interpolate>⟧.cost k c r (iterative_curve_bound n k c) }
 {}

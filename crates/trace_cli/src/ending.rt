@@ -17,7 +17,8 @@ const MEMORY_LINE: &[u8] = b"error 1 memory\n";
 
 /// Puts out what a command left to be put out, or its error line.
 pub fn put_out<O: Sink>(alloc: Global, answer: Result<Done, Refusal>, out: &mut O) -> Status
-    ensures { Delivers (left_text answer) result (output O.written O.faults out.old) (output O.written O.faults out.new) }
+    ensures { Delivers (left_text answer) result (output O.written O.faults out.old)
+        (output O.written O.faults out.new) }
 {
     match answer {
         Ok(Done::Written) => Status::Ok,
@@ -42,7 +43,8 @@ fn put_text<O: Sink>(text: &[u8], out: &mut O) -> Status
 /// Puts out the error line of a refusal.
 fn put_refusal<O: Sink>(alloc: Global, refusal: &Refusal, out: &mut O) -> Status
     ensures ends { (result ≡ refusal_status refusal.now) ⊎ (result ≡ Status.Memory) }
-    ensures out { TellsRefusal result refusal.now (Rose (O.faults out.old) (O.faults out.new)) (O.written out.old) (O.written out.new) }
+    ensures out { TellsRefusal result refusal.now (Rose (O.faults out.old) (O.faults out.new))
+        (O.written out.old) (O.written out.new) }
 {
     let Ok(line) = refusal_line(alloc, refusal) else {
         return put_memory_line(out);

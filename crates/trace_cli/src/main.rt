@@ -33,6 +33,7 @@ use std::{env, io};
 use steps::{Ledger, Steps};
 use usage::show_usage;
 
+/// Does what the arguments say over the files of the current folder, and ends with the status.
 fn main(rt: HostRuntime) -> ExitCode {
     let words = words_of(rt.alloc(), env::args(&rt));
     let mut error = rt.stderr();
@@ -55,9 +56,11 @@ fn answered(rt: HostRuntime, words: Result<Vec<String>, Status>) -> Status
 /// The words of the program's arguments, which are all but its own name. An argument that is not UTF-8 makes them no command.
 /// That the arguments are what the caller typed no clause can say: std promises nothing of what `env::args` answers.
 fn words_of(alloc: Global, arguments: io::Result<env::Args>) -> Result<Vec<String>, Status>
-    ensures words { IfOk arguments (λ arguments. IfOk result (λ words. words.items ≡ drop 1 (into_iter_items arguments))) }
+    ensures words { IfOk arguments
+        (λ arguments. IfOk result (λ words. words.items ≡ drop 1 (into_iter_items arguments))) }
     ensures memory { IfOk arguments (λ arguments. IfErr result (λ status. status ≡ Status.Memory)) }
-    ensures no_arguments { IfErr arguments (λ error. result ≡ Err (argument_status (error_kind error))) }
+    ensures no_arguments { IfErr arguments
+        (λ error. result ≡ Err (argument_status (error_kind error))) }
 {
     match arguments {
         Ok(arguments) => after_first(alloc, arguments),

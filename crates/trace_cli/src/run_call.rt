@@ -45,7 +45,8 @@ pub fn run<S: Shelf, O: Sink, I: Interpolate, P: Ledger, Q: Ledger>(
         (output O.written O.faults out.old) (output O.written O.faults out.new) }
 
     // Over every store: what the words alone refuse has its status, but for want of memory, and nothing is read or written.
-    ensures refused { IfSome (refused_by_words (deed (request_of (map string_bytes words.now)))) (λ e.
+    ensures refused { IfSome (refused_by_words (deed (request_of (map string_bytes words.now))))
+        (λ e.
         IsRefused e result (store S.holds S.counts shelf.old) (store S.holds S.counts shelf.new)) }
 
     // Over every store: a command ends only with the statuses of its row, and those that words decide only where they do.
@@ -66,39 +67,51 @@ pub fn run<S: Shelf, O: Sink, I: Interpolate, P: Ledger, Q: Ledger>(
         → result ≡ outcome_status (outcome (map string_bytes words.now) blobs)) }
 
     // What failed outside was counted in this call.
-    ensures causes { StatusCauses (S.counts shelf.old) (S.counts shelf.new) (Rose (O.faults out.old) (O.faults out.new)) result }
+    ensures causes { StatusCauses (S.counts shelf.old) (S.counts shelf.new)
+        (Rose (O.faults out.old) (O.faults out.new)) result }
 
     // A read fails only at a blob that the command gets to, a write only where all that it reads was as it should be.
     ensures so_far { GetsSoFar (deed (request_of (map string_bytes words.now)))
         (store S.holds S.counts shelf.old) (store S.holds S.counts shelf.new) result }
 
     // A done command leaves exactly its outcome: the blobs and the bytes put out.
-    ensures effect { result ≡ Status.Ok → IfSome (S.holds shelf.old) (λ blobs. HasEffect (outcome (map string_bytes words.now) blobs) blobs
-        (S.holds shelf.new) (output O.written O.faults out.old) (output O.written O.faults out.new)) }
+    ensures effect { result ≡ Status.Ok
+        → IfSome (S.holds shelf.old)
+        (λ blobs. HasEffect (outcome (map string_bytes words.now) blobs) blobs
+        (S.holds shelf.new) (output O.written O.faults out.old)
+        (output O.written O.faults out.new)) }
 
     // No blob changes but the one to be written, and none at all where the outcome is a refusal.
-    ensures blobs { SparesBlobs (deed (request_of (map string_bytes words.now))) result (S.holds shelf.old) (S.holds shelf.new) }
+    ensures blobs { SparesBlobs (deed (request_of (map string_bytes words.now))) result
+        (S.holds shelf.old) (S.holds shelf.new) }
 
     // A command that writes a blob puts nothing out when it is done, and no output's fault is its status.
-    ensures output { KeepsOutput (written_name (deed (request_of (map string_bytes words.now)))) result
+    ensures output { KeepsOutput
+        (written_name (deed (request_of (map string_bytes words.now)))) result
         (output O.written O.faults out.old) (output O.written O.faults out.new) }
 
     // Whatever the status, a command that traces takes no more products and looks than one trace of the register and the word in
     // the two blobs may take, and none where it is refused before.
-    ensures steps { IfSome (S.holds shelf.old) (λ blobs. TakesAtMost (curve_costs I.cost) (trace_made (request_of (map string_bytes words.now))) blobs
-        (record { products = prods.old; looks = looks.old }) (record { products = prods.new; looks = looks.new })) }
+    ensures steps { IfSome (S.holds shelf.old)
+        (λ blobs. TakesAtMost (curve_costs I.cost) (trace_made (request_of (map string_bytes words.now))) blobs
+        (record { products = prods.old; looks = looks.old })
+        (record { products = prods.new; looks = looks.new })) }
 
     // Where curves are built point by point, these products are at most `iterative_product_bound`.
     ensures products_built { IsBuilt I.cost → IfSome (S.holds shelf.old) (λ blobs.
         TakesAtMost built_costs (trace_made (request_of (map string_bytes words.now))) blobs
-        (record { products = prods.old; looks = looks.old }) (record { products = prods.new; looks = looks.new })) }
+        (record { products = prods.old; looks = looks.old })
+        (record { products = prods.new; looks = looks.new })) }
 
     // Over every store: it takes none, or what one trace of a register and a word that it read may take.
-    ensures steps_untold { SpendsAtMost (curve_costs I.cost) (trace_made (request_of (map string_bytes words.now))) (store S.holds S.counts shelf.old)
-        (record { products = prods.old; looks = looks.old }) (record { products = prods.new; looks = looks.new }) }
+    ensures steps_untold { SpendsAtMost (curve_costs I.cost)
+        (trace_made (request_of (map string_bytes words.now))) (store S.holds S.counts shelf.old)
+        (record { products = prods.old; looks = looks.old })
+        (record { products = prods.new; looks = looks.new }) }
 
     // The whole: how the command was performed read by read, and how its answer was delivered.
-    ensures ends { Ends (map string_bytes words.now) (store S.holds S.counts shelf.old) (store S.holds S.counts shelf.new)
+    ensures ends { Ends (map string_bytes words.now) (store S.holds S.counts shelf.old)
+        (store S.holds S.counts shelf.new)
         result (output O.written O.faults out.old) (output O.written O.faults out.new) }
 {
     let answer = perform(alloc, words, shelf, by, prods, looks);
@@ -117,8 +130,10 @@ fn perform<S: Shelf, I: Interpolate, P: Ledger, Q: Ledger>(
 ) -> Result<Done, Refusal>
     ensures performs { Performs (deed (request_of (map string_bytes words.now)))
         (store S.holds S.counts shelf.old) (store S.holds S.counts shelf.new) (left_text result) }
-    ensures steps { SpendsAtMost (curve_costs I.cost) (trace_made (request_of (map string_bytes words.now))) (store S.holds S.counts shelf.old)
-        (record { products = prods.old; looks = looks.old }) (record { products = prods.new; looks = looks.new }) }
+    ensures steps { SpendsAtMost (curve_costs I.cost)
+        (trace_made (request_of (map string_bytes words.now))) (store S.holds S.counts shelf.old)
+        (record { products = prods.old; looks = looks.old })
+        (record { products = prods.new; looks = looks.new }) }
 {
     let Some(command) = read_words(words) else {
         return Err(Refusal::BadWords);

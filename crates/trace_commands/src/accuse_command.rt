@@ -37,7 +37,8 @@ pub fn accuse<S: Shelf, I: Interpolate, P: Ledger, Q: Ledger>(
         (seen (λ text. text.items) result) }
     ensures steps { Spends (curve_costs I.cost) (accuse_trace register.now word.now c)
         (store S.holds S.counts shelf.old)
-        (record { products = prods.old; looks = looks.old }) (record { products = prods.new; looks = looks.new }) }
+        (record { products = prods.old; looks = looks.old })
+        (record { products = prods.new; looks = looks.new }) }
 {
     let register = register_under(alloc, shelf, register)?;
     let bound = allowed(&register, c)?;

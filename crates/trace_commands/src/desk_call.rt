@@ -32,7 +32,8 @@ pub fn desk_answer<I: Interpolate, P: Ledger, Q: Ledger>(
     requires symbols { HasSymbolsBelow (2 ^ register.now.bits) word.now }
     ensures findings { TracesAs result (tracing (roll_of register.now) word.now bound) }
     ensures steps { IsWithin (curve_costs I.cost) (trace_at register.now.dimension word.now bound)
-        (record { products = prods.old; looks = looks.old }) (record { products = prods.new; looks = looks.new }) }
+        (record { products = prods.old; looks = looks.old })
+        (record { products = prods.new; looks = looks.new }) }
 {
     over_field!(
         register.bits(),
@@ -58,7 +59,8 @@ fn answer_over<F: Field, I: Interpolate, P: Ledger, Q: Ledger>(
     requires symbols { HasSymbolsBelow (2 ^ register.now.bits) word.now }
     ensures findings { TracesAs result (tracing (roll_of register.now) word.now bound) }
     ensures steps { IsWithin (curve_costs I.cost) (trace_at register.now.dimension word.now bound)
-        (record { products = prods.old; looks = looks.old }) (record { products = prods.new; looks = looks.new }) }
+        (record { products = prods.old; looks = looks.old })
+        (record { products = prods.new; looks = looks.new }) }
 {
     let code = Code::<F>::new(word.len(), register.dimension()).unwrap();
     accuse(alloc, register, &code, word, bound, by, prods, looks)

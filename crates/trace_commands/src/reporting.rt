@@ -36,7 +36,8 @@ pub fn report_on<I: Interpolate, P: Ledger, Q: Ledger>(
     ensures report { Settles (seen (λ text. text.items) result)
         (report register.now word.now bound) }
     ensures steps { IsWithin (curve_costs I.cost) (trace_at register.now.dimension word.now bound)
-        (record { products = prods.old; looks = looks.old }) (record { products = prods.new; looks = looks.new }) }
+        (record { products = prods.old; looks = looks.old })
+        (record { products = prods.new; looks = looks.new }) }
 {
     let _licensees = register.len();
     match desk_answer(alloc, register, word, bound, by, prods, looks) {

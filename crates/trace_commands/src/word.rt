@@ -36,6 +36,7 @@ pub fn word_under<S: Shelf>(
     word_of_bytes(alloc, bytes, register.bits())
 }
 
+/// The word whose text the bytes are.
 fn word_of_bytes(alloc: Global, bytes: Vec<u8>, m: u32) -> Result<Word, Refusal>
     requires low { 4 ≤ m }
     requires high { m ≤ 8 }

@@ -14,6 +14,7 @@ const ONE: &[u8] =
 const SPELLED: &[u8] =
     b" { \"readable\" : 9, \"readable\":\n2, \"accused\":[ {\"serial\":5, \"n\": null, \"name\":\"li\\u00635\", \"places\":[0, 1]} ], \"bound\":1, \"x\": [1.5] }";
 
+/// Compares the findings with those of one licensee.
 fn is_one(rt: &impl Abort, findings: &Findings) -> Result<(), Fail> {
     assert_eq!(rt; (findings.readable, findings.bound), (2, 1));
     assert_eq!(rt; findings.accused.len(), 1);
@@ -24,6 +25,7 @@ fn is_one(rt: &impl Abort, findings: &Findings) -> Result<(), Fail> {
     Ok(())
 }
 
+/// Why the bytes are no report.
 fn refusal(alloc: Global, bytes: &[u8]) -> Option<ReportError> {
     report_read(alloc, bytes).err()
 }

@@ -20,6 +20,7 @@ macro_rules! in_each_field {
     };
 }
 
+/// The polynomial with these coefficients, lowest first.
 fn polynomial<F: Field>(alloc: Global, numbers: &[u8]) -> Option<Poly<F>> {
     let mut coefs = Vec::new(alloc);
     for number in numbers {
@@ -28,6 +29,7 @@ fn polynomial<F: Field>(alloc: Global, numbers: &[u8]) -> Option<Poly<F>> {
     Poly::from(alloc, &coefs).ok()
 }
 
+/// Whether these are the elements' numbers.
 fn has<F: Field>(elements: &[F], numbers: &[u8]) -> bool {
     if elements.len() != numbers.len() {
         return false;
@@ -123,6 +125,7 @@ fn has_products<F: Field, P: Ledger>(rt: &impl Abort, alloc: Global, prods: &mut
     assert!(rt; multiplies::<F, P>(alloc, &[3], &[0, 0, 1, 0], &[0, 0, 3], prods) == Some(true));
 }
 
+/// Products that were worked out apart.
 fn known_products<P: Ledger>(rt: &impl Abort, alloc: Global, blank: Blank)
     requires name { blank.name ≡ P.name }
     requires parts { blank.parts ≡ P.parts }
@@ -144,6 +147,7 @@ fn has_quotients<F: Field, P: Ledger>(rt: &impl Abort, alloc: Global, prods: &mu
     assert!(rt; divides::<F, P>(alloc, &[], &[], 0, prods) == Some(true));
 }
 
+/// Quotients and rests that were worked out apart.
 fn known_quotients<P: Ledger>(rt: &impl Abort, alloc: Global, blank: Blank)
     requires name { blank.name ≡ P.name }
     requires parts { blank.parts ≡ P.parts }
@@ -166,6 +170,7 @@ fn has_few_roots<F: Field, P: Ledger>(rt: &impl Abort, alloc: Global, prods: &mu
     assert!(rt; has_roots::<F, P>(alloc, &[4], &[], prods) == Some(true));
 }
 
+/// Roots of polynomials with few of them.
 fn known_few_roots<P: Ledger>(rt: &impl Abort, alloc: Global, blank: Blank)
     requires name { blank.name ≡ P.name }
     requires parts { blank.parts ≡ P.parts }
@@ -180,6 +185,7 @@ fn finds_roots_in_each_field(rt: HostRuntime) {
     known_few_roots::<Brand>(&rt, rt.alloc(), Blank::new(1));
 }
 
+/// Values, roots and sums over one field.
 fn known_in_one_field<P: Ledger>(rt: &impl Abort, alloc: Global, blank: Blank)
     requires name { blank.name ≡ P.name }
     requires parts { blank.parts ≡ P.parts }
@@ -239,6 +245,7 @@ fn adds_shifted<F: Field, P: Ledger>(
     Some(has(trimmed(sum.as_slice()), want))
 }
 
+/// Sums with shifted polynomials that were worked out apart.
 fn known_shifted_sums<P: Ledger>(rt: &impl Abort, alloc: Global, blank: Blank)
     requires name { blank.name ≡ P.name }
     requires parts { blank.parts ≡ P.parts }
@@ -264,6 +271,7 @@ fn adds_shifted_multiples(rt: HostRuntime) {
     known_shifted_sums::<Brand>(&rt, rt.alloc(), Blank::new(1));
 }
 
+/// Degree, leading coefficient and length of a polynomial.
 fn shape(alloc: Global, numbers: &[u8]) -> Option<(Option<usize>, u8, u8)> {
     let whole = polynomial::<Gf<4>>(alloc, numbers)?;
     Some((whole.degree(), whole.coef(1).to(), whole.coef(7).to()))

@@ -6,6 +6,7 @@ use std::alloc::Global;
 
 const HEAD: &[u8] = b"#EXTM3U\n#EXT-X-TARGETDURATION:6\n";
 
+/// Why the text is no playlist.
 fn fault_of(alloc: Global, text: &[u8]) -> Option<PlaylistError> {
     if text.len() > 1_000 {
         return None;
@@ -13,6 +14,7 @@ fn fault_of(alloc: Global, text: &[u8]) -> Option<PlaylistError> {
     read(alloc, text).err()
 }
 
+/// This fault at the line of this number.
 fn at(number: u32, fault: PlaylistFault) -> Option<PlaylistError> {
     Some(PlaylistError::Line { number, fault })
 }

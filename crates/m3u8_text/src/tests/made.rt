@@ -8,6 +8,7 @@ use std::test::Fail;
 const PAIR: &[u8] =
     b"#EXTM3U\n#EXT-X-VERSION:3\n#EXT-X-TARGETDURATION:6\n#EXT-X-MEDIA-SEQUENCE:0\n#EXT-X-PLAYLIST-TYPE:VOD\n#EXTINF:6.000000,\ns0.ts\n#EXTINF:6.000000,\ns1.ts\n#EXTINF:4.500000,\ns2.ts\n#EXT-X-ENDLIST\n";
 
+/// Why there is no such segment.
 fn segment_error(alloc: Global, micros: u64, uri: &str) -> Option<SegmentError> {
     Segment::new(alloc, micros, uri, false).err()
 }

@@ -48,6 +48,7 @@ fn keeps_the_first_fault(rt: HostRuntime) {
     assert_eq!(rt; fed(rt.alloc(), text, 12).err(), Some(wanted));
 }
 
+/// How the reading of the blob by parts ends, with this limit.
 fn poured(alloc: Global, shelf: &mut MemShelf, limit: u64) -> Result<ListReader, FetchError> {
     let mut reader = ListReader::new(alloc);
     if limit < 1_000_000 {

@@ -104,6 +104,7 @@ fn add_number(text: &mut String, number: u32) -> Result<(), Memory> {
     Ok(())
 }
 
+/// The word of three colluders over GF(256), which takes them in turns.
 fn word_shown(alloc: Global) -> Result<String, Memory> {
     let mut text = String::new(alloc);
     for i in 0u32..200 {
@@ -200,6 +201,7 @@ const FAILING_CALLS: [(u64, &str); 5] = [
     ),
 ];
 
+/// What is put out where the call of this number fails.
 fn call_fails(alloc: Global, register: &str, number: u64) -> Result<String, Memory> {
     let mut shelf = shelf(alloc, register, "5,5")?;
     shelf.fail(number)?;
@@ -226,6 +228,7 @@ const FAILING_PUTS: [(&str, &str); 2] = [
     ("0,1,2,3,0,0,0,1,1,-", "15: error "),
 ];
 
+/// What is put out where the output's first put fails.
 fn first_put_fails(alloc: Global, register: &str, word: &str) -> Result<String, Memory> {
     let mut shelf = shelf(alloc, register, word)?;
     let mut out = MemSink::new(alloc);

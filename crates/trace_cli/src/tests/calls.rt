@@ -56,6 +56,7 @@ pub fn call_with<I: Interpolate>(
     Ok(format!(in alloc; "{status}: {text}")?)
 }
 
+/// The status of a call, whose products and looks are counted from nothing.
 fn counted<I: Interpolate, P: Ledger, Q: Ledger>(
     alloc: Global,
     words: &[String],

@@ -175,7 +175,8 @@ fn a_put_fails(rt: HostRuntime) -> Result<(), Fail> {
     let mut out = MemSink::new(alloc);
     out.fail(1)?;
     let got = call_into(alloc, &mut shelf, &mut out, "trace film.title reg copy 3")?;
-    let half = "{\"accused\":[{\"name\":\"lic0\",\"places\":[0,4,5,6],\"serial\":0},{\"name\":\"lic1\",\"places\":[1,7,8,";
+    let half =
+        "{\"accused\":[{\"name\":\"lic0\",\"places\":[0,4,5,6],\"serial\":0},{\"name\":\"lic1\",\"places\":[1,7,8,";
     let wanted = format!(in alloc; "6: {half}")?;
     assert_eq!(rt; got.as_str(), wanted.as_str());
     Ok(())

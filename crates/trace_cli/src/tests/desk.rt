@@ -149,6 +149,7 @@ fn found_among_three<P: Ledger, Q: Ledger>(
     }
 }
 
+/// Findings as a text.
 fn told(alloc: Global, findings: &Findings) -> Result<String, Memory> {
     let mut text = String::new(alloc);
     for one in findings.accused.as_slice() {
@@ -157,6 +158,7 @@ fn told(alloc: Global, findings: &Findings) -> Result<String, Memory> {
     Ok(text)
 }
 
+/// Adds one of the accused to the text.
 fn add_accused(text: &mut String, one: &Accused) -> Result<(), Memory> {
     let serial = one.serial;
     let name = one.name.as_str();
@@ -195,6 +197,7 @@ fn decoded<P: Ledger>(
     }
 }
 
+/// The word whose last symbol is this one.
 fn word_ending(alloc: Global, last: Option<u8>) -> Result<Word, Memory>
     ensures { IfOk result (λ word. word ≡ Some 0 ∷ Some 1 ∷ Some 2 ∷ Some 3 ∷ Some 0 ∷ Some 0 ∷ Some 0 ∷ Some 1 ∷ Some 1 ∷ last ∷ []) }
 {
@@ -215,6 +218,7 @@ fn word_ending(alloc: Global, last: Option<u8>) -> Result<Word, Memory>
     )
 }
 
+/// The numbers of messages as a text.
 fn numbers(alloc: Global, messages: &[Message]) -> Result<String, Memory> {
     let mut text = String::new(alloc);
     for message in messages {
@@ -224,6 +228,7 @@ fn numbers(alloc: Global, messages: &[Message]) -> Result<String, Memory> {
     Ok(text)
 }
 
+/// Decodes words of the table, and compares the messages.
 fn decodes<P: Ledger>(rt: &impl Abort, alloc: Global, prods: Blank) -> Result<(), Fail>
     requires name { prods.name ≡ P.name }
     requires parts { prods.parts ≡ P.parts }

@@ -43,6 +43,7 @@ fn hold_register(alloc: Global, shelf: &mut MemShelf) -> Result<(), Memory> {
     shelf.hold("reg", text.as_bytes())
 }
 
+/// The film with its source, its design, its register and all variants.
 fn distributed(alloc: Global) -> Result<MemShelf, Memory> {
     let mut shelf = MemShelf::new(alloc);
     hold_source(alloc, &mut shelf)?;
@@ -70,7 +71,16 @@ fn a_cinema_gets_its_playlist_and_is_found(rt: HostRuntime) -> Result<(), Fail> 
     assert_eq!(rt; text.lines().nth(6 + 2 * 28), Some("v/1-01.ts"));
     assert_eq!(rt; text.lines().nth(6 + 2 * 56), Some("v/2-09.ts"));
     let mut out = MemSink::new(alloc);
-    let found = call_with(alloc, &mut shelf, &mut out, "trace title reg copy 3", &Koetter)?;
-    assert_eq!(rt; found.as_str(), "0: {\"accused\":[{\"name\":\"cinema-007\",\"places\":[0,1,2,3,4,5,6,7,8,9,10,11,12,13,14,15,16,17,18,19,20,21,22,23,24,25,26,27,28,29,30,31],\"serial\":7}],\"bound\":3,\"readable\":32}\n");
+    let found = call_with(
+        alloc,
+        &mut shelf,
+        &mut out,
+        "trace title reg copy 3",
+        &Koetter,
+    )?;
+    assert_eq!(rt;
+        found.as_str(),
+        "0: {\"accused\":[{\"name\":\"cinema-007\",\"places\":[0,1,2,3,4,5,6,7,8,9,10,11,12,13,14,15,16,17,18,19,20,21,22,23,24,25,26,27,28,29,30,31],\"serial\":7}],\"bound\":3,\"readable\":32}\n"
+    );
     Ok(())
 }

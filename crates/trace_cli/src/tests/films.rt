@@ -6,13 +6,16 @@ use shelf_io::MemShelf;
 use std::alloc::Global;
 
 /// A source of three segments of 6, 6 and 4.5 seconds.
-pub const PAIR_SOURCE: &str = "#EXTM3U\n#EXT-X-VERSION:3\n#EXT-X-TARGETDURATION:6\n#EXT-X-MEDIA-SEQUENCE:0\n#EXT-X-PLAYLIST-TYPE:VOD\n#EXTINF:6.000000,\ns0.ts\n#EXTINF:6.000000,\ns1.ts\n#EXTINF:4.500000,\ns2.ts\n#EXT-X-ENDLIST\n";
+pub const PAIR_SOURCE: &str =
+    "#EXTM3U\n#EXT-X-VERSION:3\n#EXT-X-TARGETDURATION:6\n#EXT-X-MEDIA-SEQUENCE:0\n#EXT-X-PLAYLIST-TYPE:VOD\n#EXTINF:6.000000,\ns0.ts\n#EXTINF:6.000000,\ns1.ts\n#EXTINF:4.500000,\ns2.ts\n#EXT-X-ENDLIST\n";
 
 /// A design whose two places are the first and the last of three segments.
-pub const PAIR_DESIGN: &str = "name = \"pair\"\nm = 4\nk = 2\nc = 1\nprefix = \"v/\"\nsuffix = \".ts\"\nmarked = [0, 2]\n";
+pub const PAIR_DESIGN: &str =
+    "name = \"pair\"\nm = 4\nk = 2\nc = 1\nprefix = \"v/\"\nsuffix = \".ts\"\nmarked = [0, 2]\n";
 
 /// What three colluders of twenty licensees are found by, whose copies the film's copy is mixed from.
-pub const THREE_COLLUDERS: &str = "0: {\"accused\":[{\"name\":\"lic0\",\"places\":[0,4,5,6],\"serial\":0},{\"name\":\"lic1\",\"places\":[1,7,8,9],\"serial\":1},{\"name\":\"lic16\",\"places\":[0,1,2,3],\"serial\":16}],\"bound\":3,\"readable\":10}\n";
+pub const THREE_COLLUDERS: &str =
+    "0: {\"accused\":[{\"name\":\"lic0\",\"places\":[0,4,5,6],\"serial\":0},{\"name\":\"lic1\",\"places\":[1,7,8,9],\"serial\":1},{\"name\":\"lic16\",\"places\":[0,1,2,3],\"serial\":16}],\"bound\":3,\"readable\":10}\n";
 
 /// The segments of the film's copy, in order.
 pub const FILM_COPY: [&str; 12] = [
@@ -41,12 +44,7 @@ pub fn hold_itself(shelf: &mut MemShelf, name: &str) -> Result<(), Memory> {
 }
 
 /// Holds the variants of a place.
-fn hold_place(
-    alloc: Global,
-    shelf: &mut MemShelf,
-    place: u32,
-    symbols: u32,
-) -> Result<(), Memory> {
+fn hold_place(alloc: Global, shelf: &mut MemShelf, place: u32, symbols: u32) -> Result<(), Memory> {
     for symbol in 0..symbols {
         let name = variant(alloc, place, symbol)?;
         hold_itself(shelf, name.as_str())?;
@@ -97,9 +95,9 @@ pub fn playlist(alloc: Global, names: &[&str]) -> Result<String, Memory> {
 
 /// The film's design with this dimension, bound and list of marked numbers.
 pub fn film_design(alloc: Global, k: u32, c: u32, marked: &str) -> Result<String, Memory> {
-    Ok(
-        format!(in alloc; "name = \"film\"\nm = 4\nk = {k}\nc = {c}\nprefix = \"v/\"\nsuffix = \".ts\"\nmarked = [{marked}]\n")?,
-    )
+    Ok(format!(in alloc;
+        "name = \"film\"\nm = 4\nk = {k}\nc = {c}\nprefix = \"v/\"\nsuffix = \".ts\"\nmarked = [{marked}]\n"
+    )?)
 }
 
 /// Twenty licensees, and the film with its source of twelve segments, its design and all its variants.

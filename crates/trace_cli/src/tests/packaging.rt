@@ -22,9 +22,9 @@ fn pair_playlist(
     third: &str,
 ) -> Result<String, Memory> {
     let (first, last) = variants;
-    Ok(
-        format!(in alloc; "held: #EXTM3U\n#EXT-X-VERSION:3\n#EXT-X-TARGETDURATION:{target}\n#EXT-X-MEDIA-SEQUENCE:0\n#EXT-X-PLAYLIST-TYPE:VOD\n#EXTINF:6.000000,\n{first}\n#EXTINF:{second},\ns1.ts\n{third}#EXTINF:4.500000,\n{last}\n#EXT-X-ENDLIST\n")?,
-    )
+    Ok(format!(in alloc;
+        "held: #EXTM3U\n#EXT-X-VERSION:3\n#EXT-X-TARGETDURATION:{target}\n#EXT-X-MEDIA-SEQUENCE:0\n#EXT-X-PLAYLIST-TYPE:VOD\n#EXTINF:6.000000,\n{first}\n#EXTINF:{second},\ns1.ts\n{third}#EXTINF:4.500000,\n{last}\n#EXT-X-ENDLIST\n"
+    )?)
 }
 
 /// Two licensees get their variants of a source with lines of the other kind; one is not enrolled, and nothing is written for them.
