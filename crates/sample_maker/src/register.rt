@@ -5,7 +5,7 @@ ghost use Rattle.register_terms.specs.Rules.{empty_register};
 ghost use Rattle.sample_terms.specs.Inputs.{licensee_name, register_of, register_with};
 
 use crate::numbers::{multiplier, shift};
-use lic_register::Register;
+use lic_register::{EnrolError, Register};
 use lists::{Memory, Text};
 use std::alloc::Global;
 
@@ -38,21 +38,29 @@ fn empty_register(alloc: Global, a: u32, b: u32) -> Register
     Register::new(alloc, 8, 3, u128::from(a), u128::from(b)).unwrap()
 }
 
-/// Enrols the next licensee. None of the names is refused; were one, this would be said to be want of memory.
+/// Enrols the next licensee, whose name is plain and new, and for whom there is room.
 fn enrol_next(
     alloc: Global,
     register: &mut Register,
     number: u64,
     serial: u32,
 ) -> Result<(), Memory>
-    requires { register.old ≡ register_with serial number }
+    requires before { register.old ≡ register_with serial number }
+    requires small { serial < 1000 }
     ensures { OnOk result (register.new ≡ register_with (serial + 1) number) }
 {
     let name = licensee_name(alloc, serial)?;
     match register.enrol(name.as_str()) {
         Ok(_) => Ok(()),
-        Err(_) => Err(Memory),
+        Err(error) => Err(want_of_memory(error)),
     }
+}
+
+/// The only error that comes where no name is refused.
+fn want_of_memory(_error: EnrolError) -> Memory
+    requires { _error ≡ EnrolError.Memory }
+{
+    Memory
 }
 
 /// The name of a licensee.
