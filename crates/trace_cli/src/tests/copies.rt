@@ -6,7 +6,6 @@ use super::films::{
     variant,
 };
 use gs_koetter::Koetter;
-use gs_linear::Linear;
 use lists::Memory;
 use shelf_io::{MemShelf, MemSink};
 use std::alloc::Global;
