@@ -8,6 +8,10 @@ use shelf_io::{MemShelf, MemSink};
 use std::alloc::Global;
 use std::test::Fail;
 
+/// What the whole copy of the last cinema is traced to.
+const WHOLE_COPY: &str =
+    "0: {\"accused\":[{\"name\":\"cinema-007\",\"places\":[0,1,2,3,4,5,6,7,8,9,10,11,12,13,14,15,16,17,18,19,20,21,22,23,24,25,26,27,28,29,30,31],\"serial\":7}],\"bound\":3,\"readable\":32}\n";
+
 /// The source of 900 segments of 6.006 seconds, each of which is held.
 fn hold_source(alloc: Global, shelf: &mut MemShelf) -> Result<(), Memory> {
     let mut text = String::from_str(alloc, "#EXTM3U\n#EXT-X-TARGETDURATION:6\n")?;
@@ -70,6 +74,8 @@ fn a_cinema_gets_its_playlist_and_is_found(rt: HostRuntime) -> Result<(), Fail> 
     assert_eq!(rt; text.lines().nth(6), Some("v/0-15.ts"));
     assert_eq!(rt; text.lines().nth(6 + 2 * 28), Some("v/1-01.ts"));
     assert_eq!(rt; text.lines().nth(6 + 2 * 56), Some("v/2-09.ts"));
+    let by_algebra = call(alloc, &mut shelf, "trace title reg copy 3")?;
+    assert_eq!(rt; by_algebra.as_str(), WHOLE_COPY);
     let mut out = MemSink::new(alloc);
     let found = call_with(
         alloc,
@@ -78,9 +84,6 @@ fn a_cinema_gets_its_playlist_and_is_found(rt: HostRuntime) -> Result<(), Fail> 
         "trace title reg copy 3",
         &Koetter,
     )?;
-    assert_eq!(rt;
-        found.as_str(),
-        "0: {\"accused\":[{\"name\":\"cinema-007\",\"places\":[0,1,2,3,4,5,6,7,8,9,10,11,12,13,14,15,16,17,18,19,20,21,22,23,24,25,26,27,28,29,30,31],\"serial\":7}],\"bound\":3,\"readable\":32}\n"
-    );
+    assert_eq!(rt; found.as_str(), WHOLE_COPY);
     Ok(())
 }
