@@ -9,3 +9,4 @@ mod distributed;
 mod films;
 mod packaging;
 mod registers;
+mod usage;
