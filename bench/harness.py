@@ -126,10 +126,10 @@ def least(command, folder, runs, wanted=0, environment=None):
     return took * 1000, memory(command, folder, wanted, environment)
 
 
-def processor_time(command, line):
-    """The output and the processor time of a run with this line on its input."""
+def processor_time(command, line, folder=None):
+    """The output and the processor time of a run with this line on its input, in this folder."""
     before = resource.getrusage(resource.RUSAGE_CHILDREN)
-    out = subprocess.run(command, input=line, capture_output=True, text=True, check=True).stdout
+    out = subprocess.run(command, input=line, cwd=folder, capture_output=True, text=True, check=True).stdout
     after = resource.getrusage(resource.RUSAGE_CHILDREN)
     return out, (after.ru_utime - before.ru_utime) + (after.ru_stime - before.ru_stime)
 
