@@ -1,11 +1,10 @@
 //! The small title: built from blobs, written, read, searched, cut and broken line by line.
 
-ghost use Rattle.std.specs.Prelude.{◌≤◌};
-ghost use Rattle.title_terms.specs.Designs.{places};
+ghost use Rattle.std.specs.Prelude.{◌≡◌, ◌<◌, ◌≤◌};
+ghost use Rattle.title_terms.specs.Designs.{places, symbols};
 
 use crate::{
-    AddError, BuildError, Design, Digest, Title, TitleBuilder, TitleFault, TitleKind,
-    TitleReadError, digest_of,
+    AddError, BuildError, Design, Digest, Title, TitleBuilder, TitleKind, TitleReadError, digest_of,
 };
 use m3u8_text::{MediaList, Segment};
 use shelf_io::MemShelf;
@@ -71,12 +70,19 @@ fn pair_design(alloc: Global, marked: &[u32]) -> Result<Design, Fail> {
     Ok(Design::of(alloc, "pair", 4, 2, 1, "v/", ".ts", marked)?)
 }
 
+/// The durations and names of the small list's segments.
+const SEGMENTS: [(u64, &str); 3] = [
+    (6_000_000, "s0.ts"),
+    (6_000_000, "s1.ts"),
+    (4_500_000, "s2.ts"),
+];
+
 /// The small list of three segments.
 fn pair_source(alloc: Global) -> Result<MediaList, Fail> {
     let mut list = MediaList::new(alloc, 3, 6, 0)?;
-    list.push(Segment::new(alloc, 6_000_000, "s0.ts", false)?)?;
-    list.push(Segment::new(alloc, 6_000_000, "s1.ts", false)?)?;
-    list.push(Segment::new(alloc, 4_500_000, "s2.ts", false)?)?;
+    for (micros, name) in SEGMENTS {
+        list.push(Segment::new(alloc, micros, name, false)?)?;
+    }
     Ok(list)
 }
 
@@ -118,28 +124,48 @@ fn fault_of(alloc: Global, bytes: &[u8]) -> Option<(u32, TitleKind)> {
     }
 }
 
+/// The small title, read from its text.
+fn pair_title(alloc: Global) -> Result<Title, Fail> {
+    let text = text_of(alloc, 49)?;
+    Ok(Title::read(alloc, text.as_slice())?)
+}
+
+/// The text of the title that was read.
+fn read_text(alloc: Global) -> Result<Vec<u8>, Fail> {
+    Ok(pair_title(alloc)?.write(alloc)?)
+}
+
 #[test]
 fn reads_what_it_writes(rt: HostRuntime) -> Result<(), Fail> {
     let alloc = rt.alloc();
-    let text = text_of(alloc, 49)?;
-    let title = Title::read(alloc, text.as_slice())?;
-    assert_eq!(rt; title.places(), 2);
-    assert_eq!(rt; title.segments(), 3);
-    assert_eq!(rt; title.place_of(2), Some(1));
-    assert_eq!(rt; title.place_of(1), None);
-    let abc = Digest {
-        bytes: [
-            0xba, 0x78, 0x16, 0xbf, 0x8f, 0x01, 0xcf, 0xea, 0x41, 0x41, 0x40, 0xde, 0x5d, 0xae,
-            0x22, 0x23, 0xb0, 0x03, 0x61, 0xa3, 0x96, 0x17, 0x7a, 0x9c, 0xb4, 0x10, 0xff, 0x61,
-            0xf2, 0x00, 0x15, 0xad,
-        ],
-    };
-    assert_eq!(rt; title.digest(0, 0), Some(abc));
-    assert_eq!(rt; title.digest(0, 16), None);
-    assert_eq!(rt; title.digest(2, 0), None);
-    assert_eq!(rt; title.find(&abc), Some((0, 0)));
-    let again = title.write(alloc)?;
-    assert!(rt; again.as_slice() == text.as_slice());
+    let text = read_text(alloc)?;
+    assert!(rt; text.as_slice() == text_of(alloc, 49)?.as_slice());
+    Ok(())
+}
+
+#[test]
+fn knows_its_places(rt: HostRuntime) -> Result<(), Fail> {
+    let title = pair_title(rt.alloc())?;
+    assert_eq!(rt; [title.places(), title.segments()], [2, 3]);
+    assert_eq!(rt; [title.place_of(2), title.place_of(1)], [Some(1), None]);
+    Ok(())
+}
+
+/// The digest of `abc`.
+const ABC: Digest = Digest {
+    bytes: [
+        0xba, 0x78, 0x16, 0xbf, 0x8f, 0x01, 0xcf, 0xea, 0x41, 0x41, 0x40, 0xde, 0x5d, 0xae, 0x22,
+        0x23, 0xb0, 0x03, 0x61, 0xa3, 0x96, 0x17, 0x7a, 0x9c, 0xb4, 0x10, 0xff, 0x61, 0xf2, 0x00,
+        0x15, 0xad,
+    ],
+};
+
+#[test]
+fn knows_its_digests(rt: HostRuntime) -> Result<(), Fail> {
+    let title = pair_title(rt.alloc())?;
+    let digests = [title.digest(0, 0), title.digest(0, 16), title.digest(2, 0)];
+    assert_eq!(rt; digests, [Some(ABC), None, None]);
+    assert_eq!(rt; title.find(&ABC), Some((0, 0)));
     Ok(())
 }
 
@@ -164,62 +190,63 @@ fn tells_where_a_text_is_cut(rt: HostRuntime) -> Result<(), Fail> {
     Ok(())
 }
 
+/// Lines that make the title another text: their numbers, what stands there, and the fault.
+const FAULTS: [(u32, &str, TitleKind); 30] = [
+    (1, "title 2", TitleKind::Form),
+    (2, "nam pair", TitleKind::Form),
+    (2, "name pa ir", TitleKind::Rule),
+    (3, "m 04", TitleKind::Form),
+    (3, "m 9", TitleKind::Rule),
+    (4, "k 14", TitleKind::Rule),
+    (5, "c 0", TitleKind::Rule),
+    (5, "c 9", TitleKind::Rule),
+    (6, "prefix v ", TitleKind::Rule),
+    (7, "suffix\t.ts", TitleKind::Form),
+    (8, "version 0", TitleKind::Rule),
+    (8, "version 65536", TitleKind::Rule),
+    (9, "target 18446744073709551616", TitleKind::Rule),
+    (9, "target -1", TitleKind::Form),
+    (10, "sequence 18446744073709551616", TitleKind::Rule),
+    (11, "segments 100001", TitleKind::Rule),
+    (12, "2 6000000 s0.ts", TitleKind::Form),
+    (12, "0 6000000", TitleKind::Form),
+    (12, "0 6000000 ", TitleKind::Rule),
+    (13, "0 6000000 #s1.ts", TitleKind::Rule),
+    (14, "0 10000000000000000 s2.ts", TitleKind::Rule),
+    (15, "marked 1", TitleKind::Rule),
+    (15, "marked 17", TitleKind::Rule),
+    (16, "00", TitleKind::Form),
+    (16, "3", TitleKind::Rule),
+    (17, "0", TitleKind::Rule),
+    (
+        18,
+        "BA7816BF8F01CFEA414140DE5DAE2223B00361A396177A9CB410FF61F20015AD",
+        TitleKind::Form,
+    ),
+    (
+        18,
+        "ba7816bf8f01cfea414140de5dae2223b00361a396177a9cb410ff61f20015a",
+        TitleKind::Form,
+    ),
+    (
+        19,
+        "ba7816bf8f01cfea414140de5dae2223b00361a396177a9cb410ff61f20015ad",
+        TitleKind::Duplicate,
+    ),
+    (
+        49,
+        "ba7816bf8f01cfea414140de5dae2223b00361a396177a9cb410ff61f20015ad",
+        TitleKind::Duplicate,
+    ),
+];
+
 #[test]
 fn tells_what_is_wrong_with_a_line(rt: HostRuntime) -> Result<(), Fail> {
-    let faults: [(u32, &str, TitleKind); 30] = [
-        (1, "title 2", TitleKind::Form),
-        (2, "nam pair", TitleKind::Form),
-        (2, "name pa ir", TitleKind::Rule),
-        (3, "m 04", TitleKind::Form),
-        (3, "m 9", TitleKind::Rule),
-        (4, "k 14", TitleKind::Rule),
-        (5, "c 0", TitleKind::Rule),
-        (5, "c 9", TitleKind::Rule),
-        (6, "prefix v ", TitleKind::Rule),
-        (7, "suffix\t.ts", TitleKind::Form),
-        (8, "version 0", TitleKind::Rule),
-        (8, "version 65536", TitleKind::Rule),
-        (9, "target 18446744073709551616", TitleKind::Rule),
-        (9, "target -1", TitleKind::Form),
-        (10, "sequence 18446744073709551616", TitleKind::Rule),
-        (11, "segments 100001", TitleKind::Rule),
-        (12, "2 6000000 s0.ts", TitleKind::Form),
-        (12, "0 6000000", TitleKind::Form),
-        (12, "0 6000000 ", TitleKind::Rule),
-        (13, "0 6000000 #s1.ts", TitleKind::Rule),
-        (14, "0 10000000000000000 s2.ts", TitleKind::Rule),
-        (15, "marked 1", TitleKind::Rule),
-        (15, "marked 17", TitleKind::Rule),
-        (16, "00", TitleKind::Form),
-        (16, "3", TitleKind::Rule),
-        (17, "0", TitleKind::Rule),
-        (
-            18,
-            "BA7816BF8F01CFEA414140DE5DAE2223B00361A396177A9CB410FF61F20015AD",
-            TitleKind::Form,
-        ),
-        (
-            18,
-            "ba7816bf8f01cfea414140de5dae2223b00361a396177a9cb410ff61f20015a",
-            TitleKind::Form,
-        ),
-        (
-            19,
-            "ba7816bf8f01cfea414140de5dae2223b00361a396177a9cb410ff61f20015ad",
-            TitleKind::Duplicate,
-        ),
-        (
-            49,
-            "ba7816bf8f01cfea414140de5dae2223b00361a396177a9cb410ff61f20015ad",
-            TitleKind::Duplicate,
-        ),
-    ];
     let alloc = rt.alloc();
-    for (number, line, kind) in faults {
+    for (number, line, kind) in FAULTS {
         let text = text_with(alloc, number, line)?;
-        let found = Title::read(alloc, text.as_slice()).err();
-        let fault = TitleFault { line: number, kind };
-        assert_eq!(rt; found, Some(TitleReadError::NotTitle(fault)));
+        let found = fault_of(alloc, text.as_slice());
+        assert_eq!(rt; found, Some((number, kind)));
     }
     Ok(())
 }
@@ -235,6 +262,25 @@ fn variant_digest(alloc: Global, name: &str, place: u32, symbol: u8) -> Result<D
     Ok(digest_of(alloc, &mut shelf, "variant")?)
 }
 
+/// Adds the digest of a variant that holds its own name.
+fn add_variant(
+    alloc: Global,
+    builder: &mut TitleBuilder,
+    place: u32,
+    symbol: u8,
+) -> Result<(), Fail>
+    requires place { place < places builder.old.design }
+    requires symbol { symbol < symbols builder.old.design }
+    ensures { builder.new.design ≡ builder.old.design }
+{
+    let name = builder.variant_name(alloc, place, symbol)?;
+    let digest = variant_digest(alloc, name.as_str(), place, symbol)?;
+    match builder.add(place, symbol, &digest) {
+        Ok(()) => Ok(()),
+        Err(error) => Err(error.into()),
+    }
+}
+
 /// The title of variants that hold their names.
 fn filled(alloc: Global, design: Design, source: MediaList) -> Result<Title, Fail> {
     let places = design.places();
@@ -243,9 +289,7 @@ fn filled(alloc: Global, design: Design, source: MediaList) -> Result<Title, Fai
     'places: for place in 0..places {
         'symbols: for symbol in 0..symbols {
             let symbol = symbol as u8;
-            let name = builder.variant_name(alloc, place, symbol)?;
-            let digest = variant_digest(alloc, name.as_str(), place, symbol)?;
-            builder.add(place, symbol, &digest)?;
+            add_variant(alloc, &mut builder, place, symbol)?;
         }
     }
     if builder.is_full() {
@@ -254,12 +298,59 @@ fn filled(alloc: Global, design: Design, source: MediaList) -> Result<Title, Fai
     Err("a variant has no digest".into())
 }
 
+/// The small title, built variant by variant.
+fn built(alloc: Global) -> Result<Title, Fail> {
+    let design = pair_design(alloc, &[0, 2])?;
+    filled(alloc, design, pair_source(alloc)?)
+}
+
+/// The text of the title that was built.
+fn built_text(alloc: Global) -> Result<Vec<u8>, Fail> {
+    Ok(built(alloc)?.write(alloc)?)
+}
+
 #[test]
 fn builds_the_small_title(rt: HostRuntime) -> Result<(), Fail> {
     let alloc = rt.alloc();
-    let title = filled(alloc, pair_design(alloc, &[0, 2])?, pair_source(alloc)?)?;
-    let text = title.write(alloc)?;
+    let text = built_text(alloc)?;
     assert!(rt; text.as_slice() == text_of(alloc, 49)?.as_slice());
+    Ok(())
+}
+
+/// What additions to a design of two places come to: one digest for the first variant and another for it, then for the last
+/// variant the digest that the first has and the other.
+fn additions(builder: &mut TitleBuilder) -> [Result<(), AddError>; 4]
+    requires places { 2 ≤ places builder.old.design }
+    requires symbols { 16 ≤ symbols builder.old.design }
+{
+    let one = Digest { bytes: [1; 32] };
+    let two = Digest { bytes: [2; 32] };
+    [
+        builder.add(0, 0, &one),
+        builder.add(0, 0, &two),
+        builder.add(1, 15, &one),
+        builder.add(1, 15, &two),
+    ]
+}
+
+/// What these additions have to come to.
+const ADDITIONS: [Result<(), AddError>; 4] = [
+    Ok(()),
+    Err(AddError::Twice),
+    Err(AddError::Duplicate {
+        place: 0,
+        symbol: 0,
+    }),
+    Ok(()),
+];
+
+/// The last variant of two places has its name.
+fn names_the_last(rt: &impl Abort, alloc: Global, builder: &TitleBuilder) -> Result<(), Fail>
+    requires places { 2 ≤ places builder.now.design }
+    requires symbols { 16 ≤ symbols builder.now.design }
+{
+    let name = builder.variant_name(alloc, 1, 15)?;
+    assert_eq!(rt; name.as_str(), "v/1-0f.ts");
     Ok(())
 }
 
@@ -270,18 +361,8 @@ fn adds(rt: &impl Abort, alloc: Global, design: Design, source: MediaList) -> Re
     let some = design.symbols() >= 16;
     prove!(some);
     let mut builder = TitleBuilder::new(alloc, design, source)?;
-    let name = builder.variant_name(alloc, 1, 15)?;
-    assert_eq!(rt; name.as_str(), "v/1-0f.ts");
-    let one = Digest { bytes: [1; 32] };
-    let two = Digest { bytes: [2; 32] };
-    assert_eq!(rt; builder.add(0, 0, &one), Ok(()));
-    assert_eq!(rt; builder.add(0, 0, &two), Err(AddError::Twice));
-    let other = AddError::Duplicate {
-        place: 0,
-        symbol: 0,
-    };
-    assert_eq!(rt; builder.add(1, 15, &one), Err(other));
-    assert_eq!(rt; builder.add(1, 15, &two), Ok(()));
+    names_the_last(rt, alloc, &builder)?;
+    assert_eq!(rt; additions(&mut builder), ADDITIONS);
     assert!(rt; !builder.is_full());
     Ok(())
 }
@@ -289,11 +370,17 @@ fn adds(rt: &impl Abort, alloc: Global, design: Design, source: MediaList) -> Re
 #[test]
 fn adds_each_variant_once(rt: HostRuntime) -> Result<(), Fail> {
     let alloc = rt.alloc();
-    let beyond = TitleBuilder::new(alloc, pair_design(alloc, &[0, 3])?, pair_source(alloc)?);
-    assert_eq!(rt; beyond.err(), Some(BuildError::NoSegment(3)));
     let design = pair_design(alloc, &[0, 2])?;
     if design.places() >= 2 {
         adds(&rt, alloc, design, pair_source(alloc)?)?;
     }
+    Ok(())
+}
+
+#[test]
+fn a_marked_number_has_its_segment(rt: HostRuntime) -> Result<(), Fail> {
+    let alloc = rt.alloc();
+    let beyond = TitleBuilder::new(alloc, pair_design(alloc, &[0, 3])?, pair_source(alloc)?);
+    assert_eq!(rt; beyond.err(), Some(BuildError::NoSegment(3)));
     Ok(())
 }
