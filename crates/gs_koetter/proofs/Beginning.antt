@@ -1,13 +1,11 @@
 -- The curves at the beginning.
-use Rattle.std.proofs.Common.{◌≡◌, ◌⊎◌, inl, inr, ℕ, zero, suc, ◌+◌, ◌*◌, ◌/◌, ◌<◌, ◌≤◌, List, [], length, Option, None, Some, replicate, set, refl, ◌∙◌, sym, ap, subst, arith}
+use Rattle.std.proofs.Common.{◌≡◌, ◌⊎◌, inl, inr, ℕ, zero, suc, ◌+◌, ◌*◌, ◌<◌, ◌≤◌, List, [], length, Option, None, Some, replicate, set, refl, ◌∙◌, sym, ap, subst, arith}
 use Rattle.std.proofs.lemmas.Bool.{cases_lt}
 use Rattle.std.proofs.lemmas.List.{get_or-replicate, get_or-set_other, get_or-set_same, get_or_past, length-replicate, length-set}
-use Rattle.std.proofs.Math.Nat.{le-div_iff_mul-le}
 use Rattle.algebra.specs.Lists.{coefficients}
 use Rattle.algebra.specs.Ring.{IsField, Ring}
 use Rattle.algebra.specs.Roots.{total}
 use Rattle.decoding_terms.specs.Parameters.{term_count}
-use Rattle.decoding_terms.proofs.Terms.{term_count-next}
 use Rattle.koetter_terms.specs.State.{Handled}
 use Rattle.term_lists.specs.Extended.{IsExtended}
 use Rattle.term_lists.specs.Places.{place}
@@ -17,29 +15,14 @@ use Rattle.gs_koetter.specs.Results.{IsBegun}
 use Rattle.gs_koetter.specs.Shapes.{HasShape, HaveShape, IsSpare, slot}
 use Rattle.gs_koetter.specs.States.{IsBare, spent}
 use Rattle.gs_koetter.proofs.Pivots.{inside_some, one_some}
-
--- the terms of some weights from that of y^j on
-some_weights : (w j t : ℕ) → 1 ≤ w → t ≤ w → term_count w (w * j + t) ≡ term_count w (w * j) + t * (j + 1)
-some_weights w j zero some l = let none : w * j + 0 ≡ w * j = omega arith in ap (term_count w) none ∙ omega arith
-some_weights w j (suc t) some l =
-    let before = some_weights w j t some (omega (arith, l)) in
-    let next = term_count-next w (w * j + t) some in
-    let is : w * j + suc t ≡ w * j + t + 1 = omega arith in
-    let same : term_count w (w * j + suc t) ≡ term_count w (w * j + t + 1) = ap (term_count w) is in
-    let least : j ≤ (w * j + t) / w = (le-div_iff_mul-le {k = w} {x = j} {y = w * j + t} some).1 (omega arith) in
-    let most : (w * j + t) / w ≤ j = by_order (cases_lt j ((w * j + t) / w)) in
-    omega (arith, before, next, same, least, most)
-  where
-    by_order : (j < (w * j + t) / w) ⊎ ((w * j + t) / w ≤ j) → (w * j + t) / w ≤ j
-    by_order (inl less) = let back : (suc j) * w ≤ w * j + t = (le-div_iff_mul-le {k = w} {x = suc j} {y = w * j + t} some).0 less in absurd (omega (arith, back, l))
-    by_order (inr most) = most
+use Rattle.gs_koetter.proofs.Runs.{next_run}
 
 -- the place of the next power of y
 pub next_power : (w j : ℕ) → 1 ≤ w → place w 0 j + (w * (j + 1) + 1) ≡ place w 0 (j + 1)
 next_power w j some =
-    let more = some_weights w j w some (omega arith) in
-    let is : w * j + w ≡ 0 + w * (j + 1) = omega arith in
-    let same : term_count w (w * j + w) ≡ term_count w (0 + w * (j + 1)) = ap (term_count w) is in
+    let more = next_run w some j in
+    let is : w * (j + 1) ≡ 0 + w * (j + 1) = omega arith in
+    let same : term_count w (w * (j + 1)) ≡ term_count w (0 + w * (j + 1)) = ap (term_count w) is in
     let first : term_count w (0 + w * j) ≡ term_count w (w * j) = let none : 0 + w * j ≡ w * j = omega arith in ap (term_count w) none in
     omega (arith, more, same, first)
 

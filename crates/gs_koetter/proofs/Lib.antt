@@ -4,6 +4,7 @@ pub mod Quotients
 pub mod Zeros
 pub mod States
 pub mod Raised
+pub mod Runs
 pub mod Stepping
 pub mod Laying
 pub mod Halves

@@ -7,8 +7,8 @@ use Rattle.algebra.specs.Ring.{Ring}
 use Rattle.algebra.proofs.CoefficientLists.{coefficients_below}
 use Rattle.algebra.proofs.RingLaws.{ring}
 use Rattle.decoding_terms.specs.Parameters.{term_count}
-use Rattle.koetter_terms.specs.Curves.{AreQuotients, EndsAt, IsRaised}
-use Rattle.koetter_terms.proofs.Places.{place_next, place_up}
+use Rattle.koetter_terms.specs.Curves.{AreQuotients, EndsAt, IsRaised, IsSum, curve}
+use Rattle.koetter_terms.proofs.Places.{place_next}
 use Rattle.koetter_terms.proofs.Steps.{ends_raised}
 use Rattle.term_lists.specs.declared.exponents.Exponents.{Exponents}
 use Rattle.term_lists.specs.Places.{AreTermsBelow, exponents_at, place}
@@ -44,23 +44,29 @@ module _ {F : Type 0} (R : Ring F) where
         (ends_raised R w e some quotients are a old.coefs.items new.coefs.items (is.coefs ∙ sym are.count) (coefs ∙ sym are.count) raised old.exponent j is.ends light terms below);
   }
 
-  -- what stands past the end of the product has no quotient among the terms up to the leading one
-  pub quotient_past : (w e a j : ℕ) (quotients : List ℕ) (terms : List Exponents) (old : List F) → 1 ≤ w → AreQuotients w e quotients → AreTermsBelow w e terms → length old ≡ term_count w e → EndsAt R w a j old
-      → (k : ℕ) → place w (suc a) j < k → k < length quotients → coefficients R old (slice_index_or quotients k 0) ≡ nil
-  quotient_past w e a j quotients terms old some are below long ends k l m = at_term (exponents_at terms k).x (exponents_at terms k).y (below.placed k inside) (below.light k inside)
-    where
-      inside : k < length terms
-      inside = omega (arith, m, are.count, below.count)
+  -- x times the list, from where x moves its terms
+  module _ (w e len : ℕ) (quotients : List ℕ) (terms : List Exponents) (source shifted : List F) (are : AreQuotients w e quotients) (below : AreTermsBelow w e terms)
+      (long : length source ≡ length quotients) (rest : (k : ℕ) → len ≤ k → coefficients R source k ≡ nil)
+      (moved : (i j : ℕ) → place w i j < len → curve R w shifted (suc i) j ≡ curve R w source i j) (past : (i j : ℕ) → len ≤ place w i j → curve R w shifted (suc i) j ≡ nil)
+      (others : (j : ℕ) → curve R w shifted 0 j ≡ nil) where
+    at_quotient : (k : ℕ) → k < length quotients → coefficients R shifted k ≡ coefficients R source (slice_index_or quotients k 0)
+    at_quotient k l = at_term (exponents_at terms k).x (exponents_at terms k).y (below.placed k inside) (below.light k inside)
+      where
+        inside : k < length terms
+        inside = omega (arith, l, are.count, below.count)
 
-      at_term : (x y : ℕ) → place w x y ≡ k → x + w * y < e → coefficients R old (slice_index_or quotients k 0) ≡ nil
-      at_term zero y is n =
-          ap (λ t. coefficients R old (slice_index_or quotients t 0)) (sym is)
-          ∙ coefficients_below R old (slice_index_or quotients (place w 0 y) 0) (omega (arith, are.others y (omega (arith, n)), long))
-      at_term (suc x) y is n =
-          ap (λ t. coefficients R old (slice_index_or quotients t 0)) (sym is)
-          ∙ ap (coefficients R old) (are.divided x y n)
-          ∙ ends (place w x y) (before (cases_lt (place w a j) (place w x y)))
-        where
-          before : (place w a j < place w x y) ⊎ (place w x y ≤ place w a j) → place w a j < place w x y
-          before (inl less) = less
-          before (inr most) = absurd (omega (arith, place_up w some a j x y most, is, l))
+        by_order : (x y : ℕ) → (place w x y < len) ⊎ (len ≤ place w x y) → curve R w shifted (suc x) y ≡ curve R w source x y
+        by_order x y (inl less) = moved x y less
+        by_order x y (inr more) = past x y more ∙ sym (rest (place w x y) more)
+
+        at_term : (x y : ℕ) → place w x y ≡ k → x + w * y < e → coefficients R shifted k ≡ coefficients R source (slice_index_or quotients k 0)
+        at_term zero y is n =
+            ap (coefficients R shifted) (sym is) ∙ others y
+            ∙ sym (ap (λ t. coefficients R source (slice_index_or quotients t 0)) (sym is)
+            ∙ coefficients_below R source (slice_index_or quotients (place w 0 y) 0) (omega (arith, are.others y (omega (arith, n)), long, are.count)))
+        at_term (suc x) y is n =
+            ap (coefficients R shifted) (sym is) ∙ by_order x y (cases_lt (place w x y) len)
+            ∙ sym (ap (λ t. coefficients R source (slice_index_or quotients t 0)) (sym is) ∙ ap (coefficients R source) (are.divided x y n))
+
+    pub raised_by_runs : (a : F) (new : List F) → IsSum R a source shifted new → IsRaised R quotients a source new
+    raised_by_runs a new sum k l = sum k ∙ ap (λ t. plus t (times a (coefficients R source k))) (at_quotient k l)

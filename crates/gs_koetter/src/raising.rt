@@ -1,15 +1,16 @@
 //! Curves multiplied by x + a.
 
-ghost use Rattle.std.specs.Prelude.{◌≡◌, ℕ, ◌+◌, ◌*◌, ◌<◌, ◌≤◌, length, slice_index_or};
+ghost use Rattle.std.specs.Prelude.{◌≡◌, ℕ, suc, ◌+◌, ◌*◌, ◌<◌, ◌≤◌, length, slice_index_or};
 ghost use Rattle.algebra.specs.Lists.{coefficients};
 ghost use Rattle.decoding_terms.specs.Parameters.{term_count};
-ghost use Rattle.koetter_terms.specs.Curves.{IsRaised};
+ghost use Rattle.koetter_terms.specs.Curves.{IsRaised, curve};
+ghost use Rattle.term_lists.specs.Places.{place};
 ghost use Rattle.gs_koetter.specs.Shapes.{HasShape, IsProduct, IsSpare};
 
 use crate::cancelling::add_front;
 use crate::curve::Curve;
 use crate::derivatives::clear;
-use crate::frame::Frame;
+use crate::frame::{Frame, Monomials};
 use gf2m::{Field, Ledger, Steps};
 use std::mem;
 
@@ -38,29 +39,69 @@ pub(crate) fn shift<F: Field>(target: &mut [F], source: &[F], quotients: &[usize
     }
 }
 
-/// Puts in the product of the source, whose coefficients from `len` on are zero, with x + a, which has only zeros from `end` on.
+/// Copies so many entries, from the place `from` on to the place `to` on.
+fn copy_run<F: Field>(target: &mut [F], source: &[F], from: usize, to: usize, count: usize)
+    requires source { from + count ≤ length source.now }
+    requires target { to + count ≤ length target.old }
+    ensures length { length target.new ≡ length target.old }
+    ensures each { (i : ℕ) → i < count
+        → coefficients F.ring target.new (to + i) ≡ coefficients F.ring source.now (from + i) }
+    ensures before { (k : ℕ) → k < to
+        → coefficients F.ring target.new k ≡ coefficients F.ring target.old k }
+    ensures after { (k : ℕ) → to + count ≤ k
+        → coefficients F.ring target.new k ≡ coefficients F.ring target.old k }
+{
+    target[to..to + count].copy_from_slice(&source[from..from + count]);
+}
+
+/// Puts in x times the first `len` coefficients of the source, which weigh less than w times `runs`. The terms whose weights
+/// divided by w give q stand one after the other, and x moves each of them by q + 1 places.
+fn times_x<F: Field>(target: &mut [F], source: &[F], w: usize, len: usize, runs: usize)
+    requires some { 1 ≤ w }
+    requires low { w * runs ≤ 8192 }
+    requires inside { len ≤ length source.now }
+    requires room { len + runs ≤ length target.old }
+    requires last { (q : ℕ) → q < runs → term_count w (w * q) < len }
+    requires all { len ≤ term_count w (w * runs) }
+    requires zeros { (k : ℕ) → coefficients F.ring target.old k ≡ F.ring.nil }
+    ensures length { length target.new ≡ length target.old }
+    ensures moved { (i j : ℕ) → place w i j < len
+        → curve F.ring w target.new (suc i) j ≡ curve F.ring w source.now i j }
+    ensures past { (i j : ℕ) → len ≤ place w i j
+        → curve F.ring w target.new (suc i) j ≡ F.ring.nil }
+    ensures others { (j : ℕ) → curve F.ring w target.new 0 j ≡ F.ring.nil }
+{
+    let mut from = 0;
+    'runs: for q in 0..runs {
+        let count = (w * (q + 1)).min(len - from);
+        copy_run(target, source, from, from + q + 1, count);
+        from += count;
+    }
+}
+
+/// Puts in the product of the source, whose coefficients from `len` on are zero, with x + a.
 fn multiply<F: Field, P: Ledger>(
     target: &mut [F],
     source: &[F],
-    quotients: &[usize],
+    terms: &Monomials,
     len: usize,
-    end: usize,
+    runs: usize,
     a: F,
     prods: &mut Steps<P>,
 )
-    requires target { length target.old ≡ length quotients.now }
-    requires source { length source.now ≡ length quotients.now }
-    requires inside { len ≤ length source.now }
-    requires end { end ≤ length source.now }
+    requires low { terms.now.w * runs ≤ 8192 }
+    requires target { length target.old ≡ length terms.now.quotients.items }
+    requires source { length source.now ≡ length terms.now.quotients.items }
+    requires room { len + runs ≤ length source.now }
+    requires last { (q : ℕ) → q < runs → term_count terms.now.w (terms.now.w * q) < len }
+    requires all { len ≤ term_count terms.now.w (terms.now.w * runs) }
     requires rest { (k : ℕ) → len ≤ k → coefficients F.ring source.now k ≡ F.ring.nil }
-    requires past { (k : ℕ) → end ≤ k → k < length quotients.now
-        → coefficients F.ring source.now (slice_index_or quotients.now k 0) ≡ F.ring.nil }
     ensures length { length target.new ≡ length target.old }
-    ensures product { IsRaised F.ring quotients.now a source.now target.new }
+    ensures product { IsRaised F.ring terms.now.quotients.items a source.now target.new }
     ensures products { prods.new ≡ prods.old + len }
 {
     clear(target);
-    shift(target, source, &quotients[..end]);
+    times_x(target, source, terms.w, len, runs);
     add_front(target, source, len, a, prods);
 }
 
@@ -84,19 +125,19 @@ pub(crate) fn raise<F: Field, P: Ledger>(
     ensures spare { IsSpare frame.now.terms.w frame.now.terms.e frame.now.orders.e spare.new }
     ensures products { prods.new ≤ prods.old + term_count frame.now.terms.w frame.now.terms.e }
 {
-    let end = curve.len + (curve.exponent + frame.terms.w * j) / frame.terms.w + 1;
+    let runs = (curve.exponent + frame.terms.w * j) / frame.terms.w + 1;
     multiply(
         &mut spare.coefs,
         &curve.coefs,
-        &frame.terms.quotients,
+        &frame.terms,
         curve.len,
-        end,
+        runs,
         a,
         prods,
     );
     mem::swap(&mut curve.coefs, &mut spare.coefs);
     shift(&mut spare.tile, &curve.tile, &frame.orders.quotients);
     mem::swap(&mut curve.tile, &mut spare.tile);
-    curve.len = end;
+    curve.len += runs;
     curve.exponent += 1;
 }
