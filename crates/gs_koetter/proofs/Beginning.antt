@@ -12,7 +12,8 @@ use Rattle.term_lists.specs.Places.{place}
 use Rattle.term_lists.proofs.Ordered.{place_below}
 use Rattle.gs_koetter.specs.declared.curve.Curve.{Curve}
 use Rattle.gs_koetter.specs.Results.{IsBegun}
-use Rattle.gs_koetter.specs.Shapes.{HasShape, HaveShape, IsSpare, slot}
+use Rattle.gs_koetter.specs.Shapes.{HasShape, HaveShape, IsSpare, coefs_of, slot}
+use Rattle.gs_koetter.proofs.Parts.{coefficient_at}
 use Rattle.gs_koetter.specs.States.{IsBare, spent}
 use Rattle.gs_koetter.proofs.Pivots.{inside_some, one_some}
 use Rattle.gs_koetter.proofs.Runs.{next_run}
@@ -43,24 +44,26 @@ zeros_at R n list is k = ap (λ t. coefficients R t k) is ∙ by_order (cases_lt
 module _ {F : Type 0} (R : Ring F) (w e s : ℕ) where
   open R use {nil, unit}
 
-  pub begun_curve : (j first : ℕ) (old new : Curve F) → 1 ≤ w → w * j < e → first ≡ place w 0 j → IsSpare w e s old → ((k : ℕ) → coefficients R old.coefs.items k ≡ nil)
-      → new.coefs.items ≡ set old.coefs.items first unit → length new.tile.items ≡ length old.tile.items → new.len ≡ first + 1 → new.exponent ≡ 0 → IsBegun R w e s j (Some new)
-  begun_curve j first old new some light at lists zeros coefs tile len exponent = record {
+  pub begun_curve : (j first : ℕ) (old new : Curve F) → 1 ≤ w → w * j < e → first ≡ place w 0 j → IsSpare w e s old → ((k : ℕ) → coefficients R old.list.items k ≡ nil)
+      → new.list.items ≡ set old.list.items (old.orders + first) unit → new.orders ≡ old.orders → new.len ≡ first + 1 → new.exponent ≡ 0 → IsBegun R w e s j (Some new)
+  begun_curve j first old new some light at lists zeros list orders len exponent = record {
     begun = new;
     is = refl;
     shape = record {
-      coefs = ap length coefs ∙ length-set old.coefs.items first unit ∙ lists.coefs;
-      tile = tile ∙ lists.tile;
+      list = ap length list ∙ length-set old.list.items (old.orders + first) unit ∙ lists.list;
+      orders = orders ∙ lists.orders;
       len = len ∙ ap (λ n. n + 1) (at ∙ ap (λ x. place w x j) (sym exponent));
       light = subst (λ x. x + w * j < e) (sym exponent) (omega (arith, light));
       ends = λ k l.
           let late : place w 0 j < k = subst (λ x. place w x j < k) exponent l in
-          ap (λ t. coefficients R t k) coefs ∙ get_or-set_other old.coefs.items first k unit nil (λ same. absurd (omega (arith, late, at, same))) ∙ zeros k;
+          coefficient_at R new old.orders k orders ∙ ap (λ t. coefficients R t (old.orders + k)) list
+          ∙ get_or-set_other old.list.items (old.orders + first) (old.orders + k) unit nil (λ same. absurd (omega (arith, late, at, same))) ∙ zeros (old.orders + k);
     };
     exponent = exponent;
     one =
         let inside = place_below w e 0 j some (omega (arith, light)) in
-        ap (λ t. coefficients R t (place w 0 j)) coefs ∙ ap (coefficients R (set old.coefs.items first unit)) (sym at) ∙ get_or-set_same old.coefs.items first unit nil (omega (arith, inside, at, lists.coefs));
+        coefficient_at R new old.orders (place w 0 j) orders ∙ ap (λ t. coefficients R t (old.orders + place w 0 j)) list ∙ ap (λ k. coefficients R (set old.list.items (old.orders + first) unit) (old.orders + k)) (sym at)
+        ∙ get_or-set_same old.list.items (old.orders + first) unit nil (omega (arith, inside, at, lists.list, lists.orders));
   }
 
   module _ (n : ℕ) (curves : List (Option (Curve F))) (all : IsExtended (IsBegun R w e s) None [] n curves) where
@@ -87,8 +90,8 @@ module _ {F : Type 0} (R : Ring F) (w e s : ℕ) where
       lead = λ j c there z.
           let is = found j c there in
           let exponent : c.exponent ≡ 0 = ap (λ (x : Curve F). x.exponent) (sym is.1) ∙ is.0.exponent in
-          let one : coefficients R c.coefs.items (place w 0 j) ≡ unit = ap (λ (x : Curve F). coefficients R x.coefs.items (place w 0 j)) (sym is.1) ∙ is.0.one in
-          field.apart (sym one ∙ ap (λ x. coefficients R c.coefs.items (place w x j)) (sym exponent) ∙ z);
+          let one : coefficients R (coefs_of c) (place w 0 j) ≡ unit = ap (λ (x : Curve F). coefficients R (coefs_of x) (place w 0 j)) (sym is.1) ∙ is.0.one in
+          field.apart (sym one ∙ ap (λ x. coefficients R (coefs_of c) (place w x j)) (sym exponent) ∙ z);
       meets = λ j c there a b u v m. nothing a b u v m _;
       few = let none = total_none n (λ j. spent w e j (slot curves j)) (λ j l. let is = at j l in ap (spent w e j) is.is ∙ is.exponent) in omega (arith, none);
     }

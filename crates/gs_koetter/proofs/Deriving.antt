@@ -1,7 +1,7 @@
 -- Derivatives of a curve from its table.
-use Rattle.std.proofs.Common.{◌≡◌, ◌⊎◌, inl, inr, ℕ, zero, suc, ◌+◌, ◌*◌, ◌^◌, ◌<◌, ◌≤◌, List, length, take, Option, None, Some, get_or, refl, ◌∙◌, sym, ap, subst, arith}
+use Rattle.std.proofs.Common.{◌≡◌, ◌⊎◌, inl, inr, ℕ, zero, suc, ◌+◌, ◌-◌, ◌*◌, ◌^◌, ◌<◌, ◌≤◌, List, length, take, Option, None, Some, get_or, refl, ◌∙◌, sym, ap, subst, arith}
 use Rattle.std.proofs.lemmas.Bool.{cases_lt}
-use Rattle.std.proofs.lemmas.List.{get_or-take, get_or_default, get_or_past}
+use Rattle.std.proofs.lemmas.List.{get_or-take, get_or_default, get_or_past, length-take}
 use Rattle.algebra.specs.Lists.{coefficients}
 use Rattle.algebra.specs.Ring.{Ring}
 use Rattle.algebra.specs.Roots.{total}
@@ -15,10 +15,11 @@ use Rattle.koetter_terms.proofs.Derivatives.{derivative_more, derivative_same}
 use Rattle.koetter_terms.proofs.Orders.{handled_point}
 use Rattle.term_lists.specs.Places.{place}
 use Rattle.gs_koetter.specs.declared.curve.Curve.{Curve}
-use Rattle.gs_koetter.specs.Shapes.{HaveShape, IsEnded, slot}
+use Rattle.gs_koetter.specs.Shapes.{HaveShape, IsEnded, coefs_of, slot}
 use Rattle.gs_koetter.specs.States.{AreDerived, IsBare, IsDerived, IsState, spent}
 use Rattle.gs_koetter.specs.Tables.{AreSquares, entry}
-use Rattle.gs_koetter.proofs.Prefixes.{take_length}
+use Rattle.std.specs.List.{slice_range}
+use Rattle.gs_koetter.proofs.Parts.{coefficient_at}
 use Rattle.gs_koetter.proofs.Pivots.{not_some, one_some}
 
 pub slot_is : {X : Type 0} (xs : List (Option X)) (k : ℕ) (x : X) (item : Option X) → k < length xs → item ≡ get_or xs k item → item ≡ Some x → get_or xs k None ≡ Some x
@@ -27,13 +28,17 @@ slot_is xs k x item l is some = get_or_default xs k None item l ∙ sym is ∙ s
 module _ {F : Type 0} (R : Ring F) where
   open R use {nil}
 
-  -- the front of a list that has only zeros after it
-  pub front_same : (c : Curve F) (list : List F) → list ≡ c.coefs.items → IsEnded R c → (k : ℕ) → coefficients R (take c.len list) k ≡ coefficients R c.coefs.items k
-  front_same c list is end k = ap (λ t. coefficients R (take c.len t) k) is ∙ by_order (cases_lt k c.len)
+  -- the coefficients up to the leading one, after which there are only zeros
+  pub front_same : (c : Curve F) (list : List F) → list ≡ c.list.items → IsEnded R c → (k : ℕ) → coefficients R (slice_range list c.orders (c.orders + c.len)) k ≡ coefficients R (coefs_of c) k
+  front_same c list is end k =
+      let n : c.orders + c.len - c.orders ≡ c.len = omega arith in
+      ap (λ t. coefficients R (slice_range t c.orders (c.orders + c.len)) k) is ∙ ap (λ m. coefficients R (take m (coefs_of c)) k) n ∙ by_order (cases_lt k c.len)
     where
-      by_order : (k < c.len) ⊎ (c.len ≤ k) → coefficients R (take c.len c.coefs.items) k ≡ coefficients R c.coefs.items k
-      by_order (inl less) = get_or-take c.len c.coefs.items k nil less
-      by_order (inr most) = get_or_past (take c.len c.coefs.items) k nil (omega (arith, take_length c.len c.coefs.items end.inside, most)) ∙ sym (end.rest k most)
+      by_order : (k < c.len) ⊎ (c.len ≤ k) → coefficients R (take c.len (coefs_of c)) k ≡ coefficients R (coefs_of c) k
+      by_order (inl less) = get_or-take c.len (coefs_of c) k nil less
+      by_order (inr most) =
+          get_or_past (take c.len (coefs_of c)) k nil (omega (arith, length-take c.len (coefs_of c), most))
+          ∙ sym (coefficient_at R c c.orders k refl ∙ end.rest (c.orders + k) (omega (arith, most)))
 
   -- the derivatives from a table of the coefficients, by that of the derivatives in x and the same turned
   pub derived_tile : (w e n s p q : ℕ) (coefs table folded turned square tile : List F) (a b : F) → e ≤ 2 ^ p → n ≤ 2 ^ q → length table ≡ e * n → length turned ≡ n * s
@@ -69,8 +74,8 @@ module _ {F : Type 0} (R : Ring F) where
         let whole = shape j was.0 was.1 in
         let is = was.2 in
         record {
-          coefs = ap length is.coefs ∙ whole.coefs;
-          tile = is.tile_long ∙ whole.tile;
+          list = is.long ∙ whole.list;
+          orders = is.orders ∙ whole.orders;
           len = is.len ∙ whole.len ∙ ap (λ x. place w x j + 1) (sym is.exponent);
           light = subst (λ x. x + w * j < e) (sym is.exponent) whole.light;
           ends = λ k l. ap (λ t. coefficients R t k) is.coefs ∙ whole.ends k (subst (λ x. place w x j < k) is.exponent l);
@@ -83,8 +88,8 @@ module _ {F : Type 0} (R : Ring F) where
           let is = was.2 in
           let same = is.coefs in
           record {
-            lead = λ z. bare.lead j was.0 was.1 (ap (λ x. curve R w was.0.coefs.items x j) (sym is.exponent) ∙ ap (λ t. curve R w t c.exponent j) (sym same) ∙ z);
-            tiled = subst (λ t. IsTile R e n s (curve R w t) a b c.tile.items) (sym same) (is.tile a b a_powers b_powers);
+            lead = λ z. bare.lead j was.0 was.1 (ap (λ x. curve R w (coefs_of was.0) x j) (sym is.exponent) ∙ ap (λ t. curve R w t c.exponent j) (sym same) ∙ z);
+            tiled = subst (λ t. IsTile R e n s (curve R w t) a b c.list.items) (sym same) (is.tile a b a_powers b_powers);
             meets = λ x y u v m. ap (λ t. derivative_at R e n (curve R w t) x y u v) same ∙ bare.meets j was.0 was.1 x y u v m;
           };
       few = let even = total_same n (λ j. spent w e j (slot old j)) (λ j. spent w e j (slot new j)) (λ j. same_spent j (slot old j) (slot new j) (derived j)) in omega (arith, even, bare.few);

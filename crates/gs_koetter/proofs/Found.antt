@@ -1,4 +1,6 @@
 -- A curve that meets all conditions is what is looked for, and the products that it takes.
+use Rattle.gs_koetter.proofs.Parts.{drop_long}
+use Rattle.gs_koetter.specs.Shapes.{coefs_of}
 use Rattle.std.proofs.Common.{◌≡◌, ◌≢◌, ◌⊎◌, inl, inr, ℕ, zero, suc, ◌+◌, ◌-◌, ◌*◌, ◌/◌, ◌<◌, ◌≤◌, List, length, Option, None, Some, Ok, Err, refl, ◌∙◌, sym, ap, subst, arith}
 use Rattle.std.proofs.lemmas.Bool.{cases_lt}
 use Rattle.std.proofs.lemmas.List.{get_or_default}
@@ -39,13 +41,16 @@ pub record IsFound {F : Type 0} (R : Ring F) (points : List (F × F)) (w e s : �
   pub multiplicity : All (λ p. HasMultiplicity R s q p.0 p.1) points
 
 module _ {F : Type 0} (R : Ring F) (w e n s : ℕ) (some : 1 ≤ w) (wide : e ≤ w * n) (terms : List Exponents) (below : AreTermsBelow w e terms) (points : List (F × F)) (c : Curve F) (is : IsResult R w e n s points c)
-    (q : Bivariate F) (has : HasTerms R terms c.coefs.items (length c.coefs.items) q) where
+    (q : Bivariate F) (has : HasTerms R terms (coefs_of c) (length (coefs_of c)) q) where
   infixl 60 ◌⊕◌
   infixl 70 ◌⊗◌
   open R use {nil, unit, plus as ◌⊕◌, times as ◌⊗◌}
 
-  long : length c.coefs.items ≡ length terms
-  long = is.shape.coefs ∙ sym below.count
+  coefs_long : length (coefs_of c) ≡ term_count w e
+  coefs_long = drop_long c.list.items c.orders (term_count 1 s) (term_count w e) is.shape.list is.shape.orders
+
+  long : length (coefs_of c) ≡ length terms
+  long = coefs_long ∙ sym below.count
 
   -- only terms that weigh less than e stand in the polynomial
   light_term : (i j : ℕ) → get q (i, j) ≢ None → i + w * j < e
@@ -55,14 +60,14 @@ module _ {F : Type 0} (R : Ring F) (w e n s : ℕ) (some : 1 ≤ w) (wide : e �
       let same : (exponents_at terms at.0).x + w * (exponents_at terms at.0).y ≡ i + w * j = ap (λ (t : Exponents). t.x + w * t.y) at.2 in
       omega (arith, less, same)
 
-  light_coefficient : (i j : ℕ) → i + w * j < e → coefficient R q i j ≡ curve R w c.coefs.items i j
+  light_coefficient : (i j : ℕ) → i + w * j < e → coefficient R q i j ≡ curve R w (coefs_of c) i j
   light_coefficient i j l =
       let at = below.every i j l in
       let inside = place_below w e i j some l in
-      ap (λ (t : Exponents). coefficient R q t.x t.y) (sym at) ∙ has.each (place w i j) (omega (arith, inside, is.shape.coefs))
+      ap (λ (t : Exponents). coefficient R q t.x t.y) (sym at) ∙ has.each (place w i j) (omega (arith, inside, coefs_long))
 
   -- the coefficients are those of the list
-  coefficients_are : (i j : ℕ) → coefficient R q i j ≡ curve R w c.coefs.items i j
+  coefficients_are : (i j : ℕ) → coefficient R q i j ≡ curve R w (coefs_of c) i j
   coefficients_are i j = by_order (cases_lt (i + w * j) e)
     where
       by_entry : (o : Option F) → get q (i, j) ≡ o → e ≤ i + w * j → unwrap_or o nil ≡ nil
@@ -76,18 +81,18 @@ module _ {F : Type 0} (R : Ring F) (w e n s : ℕ) (some : 1 ≤ w) (wide : e �
               Holds None = ⊥
               Holds (Some x) = Unit {0}
 
-      by_order : (i + w * j < e) ⊎ (e ≤ i + w * j) → coefficient R q i j ≡ curve R w c.coefs.items i j
+      by_order : (i + w * j < e) ⊎ (e ≤ i + w * j) → coefficient R q i j ≡ curve R w (coefs_of c) i j
       by_order (inl less) = light_coefficient i j less
-      by_order (inr most) = by_entry (get q (i, j)) refl most ∙ sym (past_weight R w some c.exponent is.j e c.coefs.items is.shape.ends is.shape.light i j most)
+      by_order (inr most) = by_entry (get q (i, j)) refl most ∙ sym (past_weight R w some c.exponent is.j e (coefs_of c) is.shape.ends is.shape.light i j most)
 
   within : IsWithin e n q
   within i j there =
       let l = light_term i j there in
       (omega (arith, l), few_columns w e n i j l wide)
 
-  derivatives : (a b : F) (u v : ℕ) → hasse_derivative R q u v a b ≡ derivative_at R e n (curve R w c.coefs.items) a b u v
+  derivatives : (a b : F) (u v : ℕ) → hasse_derivative R q u v a b ≡ derivative_at R e n (curve R w (coefs_of c)) a b u v
   derivatives a b u v =
-      let p : ℕ → ℕ → F = curve R w c.coefs.items in
+      let p : ℕ → ℕ → F = curve R w (coefs_of c) in
       let swap : (i j : ℕ) → p i j ⊗ weight R a i u ⊗ weight R b j v ≡ weight R b j v ⊗ (p i j ⊗ weight R a i u) = λ i j. simp ring in
       terms_sum R (λ i j c. c ⊗ weight R a i u ⊗ weight R b j v) split e n q within
       ∙ sum_same R e (λ i. sum_below R n (λ j. coefficient R q i j ⊗ weight R a i u ⊗ weight R b j v)) (λ i. sum_below R n (λ j. weight R b j v ⊗ (p i j ⊗ weight R a i u)))
@@ -203,13 +208,13 @@ ok_then P Q (Err e) f h = tt
 
 -- the same for numbers that are known to be equal
 pub all_found : {F E : Type 0} (R : Ring F) (w e n s v d t : ℕ) (terms list : List Exponents) (points : List (F × F)) (c : Curve F) (coefs : List F) (r : Result (Bivariate F) E) → 1 ≤ w → 1 ≤ d → e ≤ w * n → AreTermsBelow w e terms
-    → IsResult R w e n s points c → list ≡ terms → coefs ≡ c.coefs.items → w ≡ v → e ≡ d → s ≡ t → IfOk r (HasTerms R list coefs (length coefs)) → IfOk r (IsFound R points v d t)
+    → IsResult R w e n s points c → list ≡ terms → coefs ≡ (coefs_of c) → w ≡ v → e ≡ d → s ≡ t → IfOk r (HasTerms R list coefs (length coefs)) → IfOk r (IsFound R points v d t)
 all_found R w e n s v d t terms list points c coefs r some positive wide below is same_list same_coefs same_w same_e same_s has =
-    let there : IfOk r (HasTerms R terms c.coefs.items (length c.coefs.items)) = subst (λ l. IfOk r (HasTerms R l c.coefs.items (length c.coefs.items))) same_list (subst (λ l. IfOk r (HasTerms R list l (length l))) same_coefs has) in
+    let there : IfOk r (HasTerms R terms (coefs_of c) (length (coefs_of c))) = subst (λ l. IfOk r (HasTerms R l (coefs_of c) (length (coefs_of c)))) same_list (subst (λ l. IfOk r (HasTerms R list l (length l))) same_coefs has) in
     subst (λ x. IfOk r (IsFound R points x d t)) same_w
     (subst (λ x. IfOk r (IsFound R points w x t)) same_e
     (subst (λ x. IfOk r (IsFound R points w e x)) same_s
-    (ok_then (HasTerms R terms c.coefs.items (length c.coefs.items)) (IsFound R points w e s) r (λ q has. found R w e n s some wide terms below points c is q has (omega (arith, positive, same_e))) there)))
+    (ok_then (HasTerms R terms (coefs_of c) (length (coefs_of c))) (IsFound R points w e s) r (λ q has. found R w e n s some wide terms below points c is q has (omega (arith, positive, same_e))) there)))
 
 pub same_products : (r w e s n count frame_w frame_e frame_s : ℕ) → count ≡ r → frame_w ≡ w → frame_e ≡ e → frame_s ≡ s → count * point_products frame_w frame_e n frame_s ≡ r * point_products w e n s
 same_products r w e s n count frame_w frame_e frame_s same_r same_w same_e same_s =

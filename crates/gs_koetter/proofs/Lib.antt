@@ -2,6 +2,7 @@ pub mod Prefixes
 pub mod Pivots
 pub mod Quotients
 pub mod Zeros
+pub mod Parts
 pub mod States
 pub mod Raised
 pub mod Runs

@@ -1,5 +1,5 @@
 -- Lists that are multiplied by x + a.
-use Rattle.std.proofs.Common.{◌≡◌, ◌⊎◌, inl, inr, ℕ, zero, suc, ◌+◌, ◌*◌, ◌/◌, ◌<◌, ◌≤◌, List, length, ◌∙◌, sym, ap, subst, arith}
+use Rattle.std.proofs.Common.{◌≡◌, ◌⊎◌, inl, inr, ℕ, zero, suc, ◌+◌, ◌*◌, ◌/◌, ◌<◌, ◌≤◌, List, length, take, drop, ◌∙◌, sym, ap, subst, arith}
 use Rattle.std.specs.Prelude.{slice_index_or}
 use Rattle.std.proofs.lemmas.Bool.{cases_lt}
 use Rattle.algebra.specs.Lists.{coefficients}
@@ -13,7 +13,8 @@ use Rattle.koetter_terms.proofs.Steps.{ends_raised}
 use Rattle.term_lists.specs.declared.exponents.Exponents.{Exponents}
 use Rattle.term_lists.specs.Places.{AreTermsBelow, exponents_at, place}
 use Rattle.gs_koetter.specs.declared.curve.Curve.{Curve}
-use Rattle.gs_koetter.specs.Shapes.{HasShape}
+use Rattle.gs_koetter.specs.Shapes.{HasShape, IsProduct, coefs_of, tile_of}
+use Rattle.gs_koetter.proofs.Parts.{drop_long}
 
 pub raised_len : (w x j len : ℕ) → 1 ≤ w → len ≡ place w x j + 1 → len + (x + w * j) / w + 1 ≡ place w (suc x) j + 1
 raised_len w x j len some is = omega (arith, place_next w some x j, is)
@@ -31,17 +32,28 @@ module _ {F : Type 0} (R : Ring F) where
       nothing : (x y : F) → x ≡ plus x (times nil y)
       nothing x y = sym (simp ring)
 
+  -- the product, from its list
+  pub product_of : (t : ℕ) (quotients shifts : List ℕ) (a : F) (old new : Curve F) (source target : List F) → old.orders ≡ t → new.orders ≡ t → source ≡ old.list.items → new.list.items ≡ target
+      → IsRaised R shifts nil (take t source) (take t target) → IsRaised R quotients a (drop t source) (drop t target) → new.exponent ≡ suc old.exponent → IsProduct R quotients shifts a old new
+  product_of t quotients shifts a old new source target old_orders new_orders same_source same_target tile coefs exponent = record {
+    coefs = subst (λ n. IsRaised R quotients a (drop n old.list.items) (coefs_of new)) (sym old_orders) (subst (λ n. IsRaised R quotients a (drop t old.list.items) (drop n new.list.items)) (sym new_orders)
+        (subst (λ x. IsRaised R quotients a (drop t x) (drop t new.list.items)) same_source (subst (λ x. IsRaised R quotients a (drop t source) (drop t x)) (sym same_target) coefs)));
+    tile = subst (λ n. IsRaised R shifts nil (take n old.list.items) (tile_of new)) (sym old_orders) (subst (λ n. IsRaised R shifts nil (take t old.list.items) (take n new.list.items)) (sym new_orders)
+        (subst (λ x. IsRaised R shifts nil (take t x) (take t new.list.items)) same_source (subst (λ x. IsRaised R shifts nil (take t source) (take t x)) (sym same_target) tile)));
+    exponent = exponent;
+  }
+
   -- the shape of the product
   pub raised_shape : (w e s j : ℕ) (quotients : List ℕ) (terms : List Exponents) (a : F) (old new : Curve F) → 1 ≤ w → AreQuotients w e quotients → AreTermsBelow w e terms → HasShape R w e s j old
-      → length new.coefs.items ≡ term_count w e → length new.tile.items ≡ term_count 1 s → IsRaised R quotients a old.coefs.items new.coefs.items → new.exponent ≡ suc old.exponent
+      → length new.list.items ≡ term_count 1 s + term_count w e → new.orders ≡ term_count 1 s → IsRaised R quotients a (coefs_of old) (coefs_of new) → new.exponent ≡ suc old.exponent
       → new.len ≡ old.len + (old.exponent + w * j) / w + 1 → suc old.exponent + w * j < e → HasShape R w e s j new
-  raised_shape w e s j quotients terms a old new some are below is coefs tile raised exponent len light = record {
-    coefs = coefs;
-    tile = tile;
+  raised_shape w e s j quotients terms a old new some are below is list orders raised exponent len light = record {
+    list = list;
+    orders = orders;
     len = len ∙ raised_len w old.exponent j old.len some is.len ∙ ap (λ x. place w x j + 1) (sym exponent);
     light = subst (λ x. x + w * j < e) (sym exponent) light;
-    ends = subst (λ x. EndsAt R w x j new.coefs.items) (sym exponent)
-        (ends_raised R w e some quotients are a old.coefs.items new.coefs.items (is.coefs ∙ sym are.count) (coefs ∙ sym are.count) raised old.exponent j is.ends light terms below);
+    ends = subst (λ x. EndsAt R w x j (coefs_of new)) (sym exponent)
+        (ends_raised R w e some quotients are a (coefs_of old) (coefs_of new) (drop_long old.list.items old.orders (term_count 1 s) (term_count w e) is.list is.orders ∙ sym are.count) (drop_long new.list.items new.orders (term_count 1 s) (term_count w e) list orders ∙ sym are.count) raised old.exponent j is.ends light terms below);
   }
 
   -- x times the list, from where x moves its terms

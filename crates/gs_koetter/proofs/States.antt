@@ -13,8 +13,10 @@ use Rattle.koetter_terms.proofs.Places.{place_same}
 use Rattle.koetter_terms.proofs.Steps.{kept_more, kept_raised, kept_sum, met_raised, met_sum}
 use Rattle.term_lists.specs.Places.{place}
 use Rattle.gs_koetter.specs.declared.curve.Curve.{Curve}
-use Rattle.gs_koetter.specs.Shapes.{AreCancelled, HasShape, HaveShape, IsCancelled, IsProduct, at_place, slot}
+use Rattle.gs_koetter.specs.Shapes.{AreCancelled, HasShape, HaveShape, IsCancelled, IsProduct, at_place, coefs_of, slot, tile_of}
 use Rattle.gs_koetter.specs.States.{IsState, spent}
+use Rattle.decoding_terms.specs.Parameters.{term_count}
+use Rattle.gs_koetter.proofs.Parts.{coefs_sum, drop_long, front_kept, take_long, whole_kept}
 use Rattle.gs_koetter.proofs.Pivots.{one_some, not_some}
 
 -- a sum of which one part grows by one
@@ -61,20 +63,20 @@ module _ {F : Type 0} (R : Ring F) (decided : (x : F) → (x ≡ R.nil) ⊎ (x �
         let led = shape p pivot stands in
         let cancelled = was.2 in
         record {
-          coefs = cancelled.coefs_long ∙ whole.coefs;
-          tile = cancelled.tile_long ∙ whole.tile;
+          list = cancelled.long ∙ whole.list;
+          orders = cancelled.orders ∙ whole.orders;
           len = cancelled.len ∙ whole.len ∙ ap (λ x. place w x j + 1) (sym cancelled.exponent);
           light = subst (λ x. x + w * j < e) (sym cancelled.exponent) whole.light;
           ends = λ k l.
               let late : place w was.0.exponent j < k = subst (λ x. place w x j < k) cancelled.exponent l in
-              cancelled.coefs k ∙ ap₂ (λ (t z : F). R.plus t z) (whole.ends k late) (pivot_nil j was.0 was.1 k late) ∙ R.plus_nil nil;
+              coefs_sum R (term_count 1 s) (R.times (at_place R number was.0) inverse) pivot was.0 c led.orders whole.orders (cancelled.orders ∙ whole.orders) cancelled.list k ∙ ap₂ (λ (t z : F). R.plus t z) (whole.ends k late) (pivot_nil j was.0 was.1 k late) ∙ R.plus_nil nil;
         }
   ]
     where
       pivot_nil : (j : ℕ) (b : Curve F) → slot old j ≡ Some b → (k : ℕ) → place w b.exponent j < k
-          → R.times (R.times (at_place R number b) inverse) (slice_index_or pivot.coefs.items k nil) ≡ nil
+          → R.times (R.times (at_place R number b) inverse) (slice_index_or (coefs_of pivot) k nil) ≡ nil
       pivot_nil j b is k l = elim (decided (at_place R number b)) [
-        | inl z ↦ ap (λ t. R.times (R.times t inverse) (slice_index_or pivot.coefs.items k nil)) z ∙ ap (λ t. R.times t (slice_index_or pivot.coefs.items k nil)) (nil_times R inverse) ∙ nil_times R (slice_index_or pivot.coefs.items k nil)
+        | inl z ↦ ap (λ t. R.times (R.times t inverse) (slice_index_or (coefs_of pivot) k nil)) z ∙ ap (λ t. R.times t (slice_index_or (coefs_of pivot) k nil)) (nil_times R inverse) ∙ nil_times R (slice_index_or (coefs_of pivot) k nil)
         | inr d ↦
             let led = shape p pivot stands in
             let whole = shape j b is in
@@ -86,8 +88,8 @@ module _ {F : Type 0} (R : Ring F) (decided : (x : F) → (x ≡ R.nil) ⊎ (x �
       (lower : (c d : F) (h k : ℕ) → met c d (suc h) k → met c d h k) (lower_here : (t : ℕ) → suc t ≡ u → met a b t v)
       (added : (c d : F) (h k : ℕ) → more c d h k → met c d h k ⊎ ((c ≡ a) × (d ≡ b) × (h ≡ u) × (k ≡ v))) where
     -- what stands at the place is the derivative
-    stored : (j : ℕ) (c : Curve F) → slot old j ≡ Some c → at_place R number c ≡ derivative_at R e n (curve R w c.coefs.items) a b u v
-    stored j c is = ap (slice_index_at c.tile.items) (sym at) ∙ (state.kept j c is).tiled u v few
+    stored : (j : ℕ) (c : Curve F) → slot old j ≡ Some c → at_place R number c ≡ derivative_at R e n (curve R w (coefs_of c)) a b u v
+    stored j c is = ap (slice_index_at c.list.items) (sym at) ∙ (state.kept j c is).tiled u v few
       where
         slice_index_at : List F → ℕ → F
         slice_index_at list k = slice_index_or list k nil
@@ -103,19 +105,22 @@ module _ {F : Type 0} (R : Ring F) (decided : (x : F) → (x ≡ R.nil) ⊎ (x �
         led : HasShape R w e s p pivot
         led = shape p pivot stands
 
-        pivot_kept : IsKept R w e n s met a b p pivot.exponent pivot.coefs.items pivot.tile.items
+        pivot_kept : IsKept R w e n s met a b p pivot.exponent (coefs_of pivot) pivot.list.items
         pivot_kept = state.kept p pivot stands
 
-        beside : (j : ℕ) (c o : Curve F) → j ≢ p → slot old j ≡ Some o → IsCancelled R number inverse pivot o c → IsKept R w e n s more a b j c.exponent c.coefs.items c.tile.items
-        beside j c o apart is cancelled = subst (λ x. IsKept R w e n s more a b j x c.coefs.items c.tile.items) (sym cancelled.exponent)
-            (kept_more R w e n s some met a b more u v j o.exponent c.coefs.items c.tile.items
-            (kept_sum R w e n s some met a b j o.exponent p pivot.exponent (R.times (at_place R number o) inverse) o.coefs.items o.tile.items pivot.coefs.items pivot.tile.items c.coefs.items c.tile.items
-            (state.kept j o is) pivot_kept led.ends order cancelled.coefs cancelled.tile)
-            (met_sum R w e n s some met a b u v inverse o.coefs.items pivot.coefs.items c.coefs.items
+        beside : (j : ℕ) (c o : Curve F) → j ≢ p → slot old j ≡ Some o → IsCancelled R number inverse pivot o c → IsKept R w e n s more a b j c.exponent (coefs_of c) c.list.items
+        beside j c o apart is cancelled = subst (λ x. IsKept R w e n s more a b j x (coefs_of c) c.list.items) (sym cancelled.exponent)
+            (kept_more R w e n s some met a b more u v j o.exponent (coefs_of c) c.list.items
+            (kept_sum R w e n s some met a b j o.exponent p pivot.exponent (R.times (at_place R number o) inverse) (coefs_of o) o.list.items (coefs_of pivot) pivot.list.items (coefs_of c) c.list.items
+            (state.kept j o is) pivot_kept led.ends order coefs cancelled.list)
+            (met_sum R w e n s some met a b u v inverse (coefs_of o) (coefs_of pivot) (coefs_of c)
             (ap (λ t. R.times t inverse) (sym (stored p pivot stands)) ∙ invertible)
-            (subst (λ t. IsSum R (R.times t inverse) pivot.coefs.items o.coefs.items c.coefs.items) (stored j o is) cancelled.coefs))
+            (subst (λ t. IsSum R (R.times t inverse) (coefs_of pivot) (coefs_of o) (coefs_of c)) (stored j o is) coefs))
             added)
           where
+            coefs : IsSum R (R.times (at_place R number o) inverse) (coefs_of pivot) (coefs_of o) (coefs_of c)
+            coefs = let whole = shape j o is in coefs_sum R (term_count 1 s) (R.times (at_place R number o) inverse) pivot o c led.orders whole.orders (cancelled.orders ∙ whole.orders) cancelled.list
+
             order : (R.times (at_place R number o) inverse ≡ nil) ⊎ (place w pivot.exponent p < place w o.exponent j)
             order = elim (decided (at_place R number o)) [
               | inl z ↦ inl (ap (λ t. R.times t inverse) z ∙ nil_times R inverse)
@@ -129,22 +134,28 @@ module _ {F : Type 0} (R : Ring F) (decided : (x : F) → (x ≡ R.nil) ⊎ (x �
                 strictly (inl less) l = less
                 strictly (inr most) l = absurd (apart (sym (place_same w some pivot.exponent p o.exponent j (omega (arith, most, l))).1))
 
-        raised : (c : Curve F) → result ≡ Some c → IsKept R w e n s more a b p c.exponent c.coefs.items c.tile.items
+        raised : (c : Curve F) → result ≡ Some c → IsKept R w e n s more a b p c.exponent (coefs_of c) c.list.items
         raised c is =
             let made = product c is in
             let whole = result_shape c is in
             let light : suc pivot.exponent + w * p < e = subst (λ x. x + w * p < e) made.exponent whole.light in
-            subst (λ x. IsKept R w e n s more a b p x c.coefs.items c.tile.items) (sym made.exponent)
-            (kept_more R w e n s some met a b more u v p (suc pivot.exponent) c.coefs.items c.tile.items
-            (kept_raised R w e n s some met a b quotients shifts are shifted p pivot.exponent pivot.coefs.items pivot.tile.items c.coefs.items c.tile.items pivot_kept led.ends light
-            (led.coefs ∙ sym are.count) (whole.coefs ∙ sym are.count) made.coefs (led.tile ∙ sym shifted.count) (whole.tile ∙ sym shifted.count) made.tile lower)
-            (met_raised R w e n s some met a b quotients shifts are shifted p pivot.exponent pivot.coefs.items pivot.tile.items c.coefs.items c.tile.items pivot_kept led.ends light
-            (led.coefs ∙ sym are.count) (whole.coefs ∙ sym are.count) made.coefs (led.tile ∙ sym shifted.count) (whole.tile ∙ sym shifted.count) made.tile u v lower_here)
-            added)
+            let front = front_kept R w e n s met a b p pivot.exponent pivot led.orders pivot_kept in
+            let old_coefs = drop_long pivot.list.items pivot.orders (term_count 1 s) (term_count w e) led.list led.orders in
+            let new_coefs = drop_long c.list.items c.orders (term_count 1 s) (term_count w e) whole.list whole.orders in
+            let old_tile = take_long pivot.list.items pivot.orders (term_count 1 s) (term_count w e) led.list led.orders in
+            let new_tile = take_long c.list.items c.orders (term_count 1 s) (term_count w e) whole.list whole.orders in
+            subst (λ x. IsKept R w e n s more a b p x (coefs_of c) c.list.items) (sym made.exponent)
+            (whole_kept R w e n s more a b p (suc pivot.exponent) c whole.orders
+            (kept_more R w e n s some met a b more u v p (suc pivot.exponent) (coefs_of c) (tile_of c)
+            (kept_raised R w e n s some met a b quotients shifts are shifted p pivot.exponent (coefs_of pivot) (tile_of pivot) (coefs_of c) (tile_of c) front led.ends light
+            (old_coefs ∙ sym are.count) (new_coefs ∙ sym are.count) made.coefs (old_tile ∙ sym shifted.count) (new_tile ∙ sym shifted.count) made.tile lower)
+            (met_raised R w e n s some met a b quotients shifts are shifted p pivot.exponent (coefs_of pivot) (tile_of pivot) (coefs_of c) (tile_of c) front led.ends light
+            (old_coefs ∙ sym are.count) (new_coefs ∙ sym are.count) made.coefs (old_tile ∙ sym shifted.count) (new_tile ∙ sym shifted.count) made.tile u v lower_here)
+            added))
 
-        kept : (j : ℕ) (c : Curve F) → slot new j ≡ Some c → IsKept R w e n s more a b j c.exponent c.coefs.items c.tile.items
+        kept : (j : ℕ) (c : Curve F) → slot new j ≡ Some c → IsKept R w e n s more a b j c.exponent (coefs_of c) c.list.items
         kept j c there = elim (eqb_tells j p) [
-          | inl is ↦ subst (λ k. IsKept R w e n s more a b k c.exponent c.coefs.items c.tile.items) (sym is.1) (raised c (sym here ∙ ap (slot new) (sym is.1) ∙ there))
+          | inl is ↦ subst (λ k. IsKept R w e n s more a b k c.exponent (coefs_of c) c.list.items) (sym is.1) (raised c (sym here ∙ ap (slot new) (sym is.1) ∙ there))
           | inr apart ↦ let was = before j c (slot old j) (slot new j) (others j apart.1) there in beside j c was.0 apart.1 was.1 was.2
         ]
 
@@ -167,8 +178,8 @@ pub state_zero : {F : Type 0} (R : Ring F) (w e n s : ℕ) (some : 1 ≤ w) (met
     → ((c d : F) (h k : ℕ) → more c d h k → met c d h k ⊎ ((c ≡ a) × (d ≡ b) × (h ≡ u) × (k ≡ v))) → IsState R w e n s more a b (suc handled) curves
 state_zero {F} R w e n s some met more a b u v number handled curves at few state none added = record {
   kept = λ j c is.
-      kept_more R w e n s some met a b more u v j c.exponent c.coefs.items c.tile.items (state.kept j c is)
-      (sym ((state.kept j c is).tiled u v few) ∙ ap (entry_at c.tile.items) at ∙ none j c is) added;
+      kept_more R w e n s some met a b more u v j c.exponent (coefs_of c) c.list.items (state.kept j c is)
+      (sym ((state.kept j c is).tiled u v few) ∙ ap (entry_at c.list.items) at ∙ none j c is) added;
   few = omega (arith, state.few);
 }
   where

@@ -9,6 +9,7 @@ use Rattle.term_lists.proofs.Ordered.{place_below}
 use Rattle.gs_koetter.specs.declared.curve.Curve.{Curve}
 use Rattle.gs_koetter.specs.Shapes.{AreCancelled, HasRoom, HaveShape, IsEnded, slot}
 use Rattle.gs_koetter.specs.States.{step_products}
+use Rattle.gs_koetter.proofs.Parts.{past_end}
 use Rattle.gs_koetter.proofs.Pivots.{inside_some, not_some}
 
 pub stands_is : {X : Type 0} (old : List (Option X)) (p : ℕ) (first pivot : X) (d taken : Option X) → get_or old p None ≡ Some first → taken ≡ get_or old p d → taken ≡ Some pivot → get_or old p None ≡ Some pivot
@@ -34,7 +35,7 @@ module _ {F : Type 0} (R : Ring F) (w e s p : ℕ) (old cancelled : List (Option
       | inr apart ↦
           let whole = shape j c (sym (get_or-set_other old p j taken None apart.1) ∙ is) in
           let led = shape p pivot stands in
-          record { coefs = led.coefs ∙ sym whole.coefs; tile = led.tile ∙ sym whole.tile }
+          record { list = led.list ∙ sym whole.list }
     ]
 
   short : 1 ≤ w → pivot.len ≤ term_count w e
@@ -46,12 +47,12 @@ module _ {F : Type 0} (R : Ring F) (w e s p : ℕ) (old cancelled : List (Option
   pub ended : 1 ≤ w → IsEnded R pivot
   ended some =
       let led = shape p pivot stands in
-      record { inside = omega (arith, short some, led.coefs); rest = λ k l. led.ends k (omega (arith, led.len, l)) }
+      record { inside = omega (arith, short some, led.list, led.orders); rest = past_end R pivot (λ k l. led.ends k (omega (arith, led.len, l))) }
 
   -- the products of the inverse, the other curves and the pivot
-  pub counted : (some : 1 ≤ w) (count m a b c d : ℕ) → m ≡ count → b ≤ a + 1 → c ≤ b + m * (1 + pivot.len + length pivot.tile.items) → d ≤ c + term_count w e → d ≤ a + step_products w e s count
+  pub counted : (some : 1 ≤ w) (count m a b c d : ℕ) → m ≡ count → b ≤ a + 1 → c ≤ b + m * (1 + pivot.orders + pivot.len) → d ≤ c + term_count w e → d ≤ a + step_products w e s count
   counted some count m a b c d same one all last =
       let led = shape p pivot stands in
-      let each : count * (1 + pivot.len + length pivot.tile.items) ≤ count * (1 + term_count w e + term_count 1 s) = mul-le-mul_left count (omega (arith, short some, led.tile)) in
-      let was : m * (1 + pivot.len + length pivot.tile.items) ≡ count * (1 + pivot.len + length pivot.tile.items) = ap (λ n. n * (1 + pivot.len + length pivot.tile.items)) same in
+      let each : count * (1 + pivot.orders + pivot.len) ≤ count * (1 + term_count w e + term_count 1 s) = mul-le-mul_left count (omega (arith, short some, led.orders)) in
+      let was : m * (1 + pivot.orders + pivot.len) ≡ count * (1 + pivot.orders + pivot.len) = ap (λ n. n * (1 + pivot.orders + pivot.len)) same in
       omega (arith, one, all, last, each, was)

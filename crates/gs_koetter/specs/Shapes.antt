@@ -1,6 +1,6 @@
 -- The lists of kept curves, and what a step does to them.
 -- Source: this project's own.
-use Rattle.std.specs.Prelude.{◌≡◌, ◌≢◌, ℕ, suc, ◌+◌, ◌*◌, ◌<◌, ◌≤◌, List, Option, None, Some, length, slice_index_or, nat_lt, if◌then◌else◌}
+use Rattle.std.specs.Prelude.{◌≡◌, ◌≢◌, ℕ, suc, ◌+◌, ◌*◌, ◌<◌, ◌≤◌, List, Option, None, Some, length, take, drop, slice_index_or, nat_lt, if◌then◌else◌}
 use Rattle.algebra.specs.Lists.{coefficients}
 use Rattle.algebra.specs.Ring.{Ring}
 use Rattle.decoding_terms.specs.Parameters.{term_count}
@@ -13,6 +13,13 @@ use Rattle.gs_koetter.specs.declared.curve.Curve.{Curve}
 abbrev pub slot : {F : Type 0} → List (Option (Curve F)) → ℕ → Option (Curve F)
 slot curves j = slice_index_or curves j None
 
+-- the derivatives at the point at hand, and the coefficients
+abbrev pub tile_of : {F : Type 0} → Curve F → List F
+tile_of c = take c.orders c.list.items
+
+abbrev pub coefs_of : {F : Type 0} → Curve F → List F
+coefs_of c = drop c.orders c.list.items
+
 -- the shorter one of the curve so far and another, if there are such
 abbrev pub better : Option Candidate → ℕ → Option ℕ → Option Candidate
 better best place None = best
@@ -21,31 +28,30 @@ better (Some first) place (Some n) = if nat_lt n first.len then Some (record { p
 
 -- a curve with a coefficient for each term that weighs less than e, and a derivative for each order below s
 pub record IsSpare {F : Type 0} (w e s : ℕ) (c : Curve F) : Type 0 where
-  pub coefs : length c.coefs.items ≡ term_count w e
-  pub tile : length c.tile.items ≡ term_count 1 s
+  pub list : length c.list.items ≡ term_count 1 s + term_count w e
+  pub orders : c.orders ≡ term_count 1 s
 
 module _ {F : Type 0} (R : Ring F) where
   -- such a curve, whose leading term has the power j of y
   pub record HasShape (w e s j : ℕ) (c : Curve F) : Type 0 where
-    pub coefs : length c.coefs.items ≡ term_count w e
-    pub tile : length c.tile.items ≡ term_count 1 s
+    pub list : length c.list.items ≡ term_count 1 s + term_count w e
+    pub orders : c.orders ≡ term_count 1 s
     pub len : c.len ≡ place w c.exponent j + 1
     pub light : c.exponent + w * j < e
-    pub ends : EndsAt R w c.exponent j c.coefs.items
+    pub ends : EndsAt R w c.exponent j (coefs_of c)
 
   abbrev pub HaveShape : (w e s : ℕ) → List (Option (Curve F)) → Type 0
   HaveShape w e s curves = (j : ℕ) (c : Curve F) → slot curves j ≡ Some c → HasShape w e s j c
 
   -- the derivative that stands at a place
   abbrev pub at_place : ℕ → Curve F → F
-  at_place place c = coefficients R c.tile.items place
+  at_place place c = coefficients R c.list.items place
 
   -- with the multiple of the pivot that makes that derivative zero, where the inverse is that of the pivot's
   pub record IsCancelled (place : ℕ) (inverse : F) (pivot old new : Curve F) : Type 0 where
-    pub coefs : IsSum R (R.times (at_place place old) inverse) pivot.coefs.items old.coefs.items new.coefs.items
-    pub tile : IsSum R (R.times (at_place place old) inverse) pivot.tile.items old.tile.items new.tile.items
-    pub coefs_long : length new.coefs.items ≡ length old.coefs.items
-    pub tile_long : length new.tile.items ≡ length old.tile.items
+    pub list : IsSum R (R.times (at_place place old) inverse) pivot.list.items old.list.items new.list.items
+    pub long : length new.list.items ≡ length old.list.items
+    pub orders : new.orders ≡ old.orders
     pub len : new.len ≡ old.len
     pub exponent : new.exponent ≡ old.exponent
 
@@ -57,19 +63,18 @@ module _ {F : Type 0} (R : Ring F) where
 
   -- the product with x + a, where a is the first coordinate of the point at hand
   pub record IsProduct (quotients shifts : List ℕ) (a : F) (old new : Curve F) : Type 0 where
-    pub coefs : IsRaised R quotients a old.coefs.items new.coefs.items
-    pub tile : IsRaised R shifts R.nil old.tile.items new.tile.items
+    pub coefs : IsRaised R quotients a (coefs_of old) (coefs_of new)
+    pub tile : IsRaised R shifts R.nil (tile_of old) (tile_of new)
     pub exponent : new.exponent ≡ suc old.exponent
 
-  -- the lists of the curve are as long as those of the pivot
+  -- the list of the curve is as long as that of the pivot
   pub record HasRoom (pivot old : Curve F) : Type 0 where
-    pub coefs : length pivot.coefs.items ≡ length old.coefs.items
-    pub tile : length pivot.tile.items ≡ length old.tile.items
+    pub list : length pivot.list.items ≡ length old.list.items
 
   -- the pivot's coefficients end where it says
   pub record IsEnded (pivot : Curve F) : Type 0 where
-    pub inside : pivot.len ≤ length pivot.coefs.items
-    pub rest : (k : ℕ) → pivot.len ≤ k → coefficients R pivot.coefs.items k ≡ R.nil
+    pub inside : pivot.orders + pivot.len ≤ length pivot.list.items
+    pub rest : (k : ℕ) → pivot.orders + pivot.len ≤ k → coefficients R pivot.list.items k ≡ R.nil
 
   -- among the curves whose derivative at the place is not zero, one with the least leading term
   pub record IsPivot (place : ℕ) (curves : List (Option (Curve F))) (p : ℕ) : Type 0 where

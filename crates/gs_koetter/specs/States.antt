@@ -10,7 +10,7 @@ use Rattle.koetter_terms.specs.State.{Conditions, IsKept}
 use Rattle.gs_koetter.specs.declared.curve.Curve.{Curve}
 use Rattle.gs_koetter.specs.declared.points.Scratch.{Scratch}
 use Rattle.gs_koetter.specs.declared.frame.Frame.{Frame}
-use Rattle.gs_koetter.specs.Shapes.{slot}
+use Rattle.gs_koetter.specs.Shapes.{coefs_of, slot}
 use Rattle.gs_koetter.specs.Tables.{AreSquares}
 
 -- the power of x in the leading term of the curve at j, and what that power has come to where the curve was dropped
@@ -42,11 +42,12 @@ module _ {F : Type 0} (R : Ring F) where
 
   -- the same curve, with its derivatives at the point to whose coordinates these squares belong
   pub record IsDerived (w e n s : ℕ) (xs ys : List F) (old new : Curve F) : Type 0 where
-    pub coefs : new.coefs.items ≡ old.coefs.items
+    pub coefs : coefs_of new ≡ coefs_of old
+    pub orders : new.orders ≡ old.orders
     pub len : new.len ≡ old.len
     pub exponent : new.exponent ≡ old.exponent
-    pub tile_long : length new.tile.items ≡ length old.tile.items
-    pub tile : (a b : F) → AreSquares R a xs → AreSquares R b ys → IsTile R e n s (curve R w old.coefs.items) a b new.tile.items
+    pub long : length new.list.items ≡ length old.list.items
+    pub tile : (a b : F) → AreSquares R a xs → AreSquares R b ys → IsTile R e n s (curve R w (coefs_of old)) a b new.list.items
 
   abbrev pub AreDerived : ℕ → ℕ → ℕ → ℕ → List F → List F → Option (Curve F) → Option (Curve F) → Type 0
   AreDerived w e n s xs ys None None = Unit {0}
@@ -56,11 +57,11 @@ module _ {F : Type 0} (R : Ring F) where
 
 -- what holds between points: each curve that is kept meets the conditions, and the leading powers of x come to no more than the number of conditions that were handled; n is how many powers of y there are
 pub record IsBare {F : Type 0} (R : Ring F) (w e n : ℕ) (met : Conditions F) (handled : ℕ) (curves : List (Option (Curve F))) : Type 0 where
-  pub lead : (j : ℕ) (c : Curve F) → slot curves j ≡ Some c → curve R w c.coefs.items c.exponent j ≢ R.nil
-  pub meets : (j : ℕ) (c : Curve F) → slot curves j ≡ Some c → (a b : F) (u v : ℕ) → met a b u v → derivative_at R e n (curve R w c.coefs.items) a b u v ≡ R.nil
+  pub lead : (j : ℕ) (c : Curve F) → slot curves j ≡ Some c → curve R w (coefs_of c) c.exponent j ≢ R.nil
+  pub meets : (j : ℕ) (c : Curve F) → slot curves j ≡ Some c → (a b : F) (u v : ℕ) → met a b u v → derivative_at R e n (curve R w (coefs_of c)) a b u v ≡ R.nil
   pub few : total n (λ j. spent w e j (slot curves j)) ≤ handled
 
 -- each curve that is kept meets the conditions, and the leading powers of x come to no more than the number of conditions that were handled; n is how many powers of y there are
 pub record IsState {F : Type 0} (R : Ring F) (w e n s : ℕ) (met : Conditions F) (a b : F) (handled : ℕ) (curves : List (Option (Curve F))) : Type 0 where
-  pub kept : (j : ℕ) (c : Curve F) → slot curves j ≡ Some c → IsKept R w e n s met a b j c.exponent c.coefs.items c.tile.items
+  pub kept : (j : ℕ) (c : Curve F) → slot curves j ≡ Some c → IsKept R w e n s met a b j c.exponent (coefs_of c) c.list.items
   pub few : total n (λ j. spent w e j (slot curves j)) ≤ handled

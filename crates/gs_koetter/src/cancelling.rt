@@ -35,25 +35,19 @@ fn cancel<F: Field, P: Ledger>(
     inverse: F,
     prods: &mut Steps<P>,
 )
-    requires inside { place < length pivot.now.tile.items }
+    requires inside { place < length pivot.now.list.items }
     requires room { HasRoom F.ring pivot.now curve.old }
     requires ended { IsEnded F.ring pivot.now }
     ensures value { IsCancelled F.ring place inverse pivot.now curve.old curve.new }
-    ensures products { prods.new ≤ prods.old + (1 + pivot.now.len + length pivot.now.tile.items) }
+    ensures products { prods.new ≤ prods.old + (1 + pivot.now.orders + pivot.now.len) }
 {
-    let value = curve.tile[place];
+    let value = curve.list[place];
     if value == F::zero() {
         return;
     }
     let factor = value.mul(inverse, prods);
-    add_front(&mut curve.coefs, &pivot.coefs, pivot.len, factor, prods);
-    add_front(
-        &mut curve.tile,
-        &pivot.tile,
-        pivot.tile.len(),
-        factor,
-        prods,
-    );
+    let end = pivot.orders + pivot.len;
+    add_front(&mut curve.list, &pivot.list, end, factor, prods);
 }
 
 /// Makes the derivative at the place zero in each curve that is kept.
@@ -64,7 +58,7 @@ pub(crate) fn cancel_all<F: Field, P: Ledger>(
     inverse: F,
     prods: &mut Steps<P>,
 )
-    requires inside { place < length pivot.now.tile.items }
+    requires inside { place < length pivot.now.list.items }
     requires room { (j : ℕ) (c : Curve F) → slot curves.old j ≡ Some c
         → HasRoom F.ring pivot.now c }
     requires ended { IsEnded F.ring pivot.now }
@@ -72,7 +66,7 @@ pub(crate) fn cancel_all<F: Field, P: Ledger>(
         (slot curves.new j) }
     ensures count { length curves.new ≡ length curves.old }
     ensures products { prods.new ≤ prods.old
-        + length curves.old * (1 + pivot.now.len + length pivot.now.tile.items) }
+        + length curves.old * (1 + pivot.now.orders + pivot.now.len) }
 {
     'curves: for slot in curves.iter_mut() {
         if let Some(curve) = slot {
@@ -83,7 +77,7 @@ pub(crate) fn cancel_all<F: Field, P: Ledger>(
 
 /// How long the curve is, where one is kept whose derivative at the place is not zero.
 fn length_at<F: Field>(slot: &Option<Curve<F>>, place: usize) -> Option<usize>
-    requires { (c : Curve F) → slot.now ≡ Some c → place < length c.tile.items }
+    requires { (c : Curve F) → slot.now ≡ Some c → place < length c.list.items }
     ensures some { (n : ℕ) → result ≡ Some n
         → (c : Curve F) × (slot.now ≡ Some c) × (at_place F.ring place c ≢ F.ring.nil)
         × (n ≡ c.len) }
@@ -92,7 +86,7 @@ fn length_at<F: Field>(slot: &Option<Curve<F>>, place: usize) -> Option<usize>
 {
     match slot {
         Some(curve) => {
-            if curve.tile[place] == F::zero() {
+            if curve.list[place] == F::zero() {
                 None
             } else {
                 Some(curve.len)
@@ -128,7 +122,7 @@ fn better(best: Option<Candidate>, place: usize, length: Option<usize>) -> Optio
 
 /// Among the curves whose derivative at the place is not zero, one with the least leading term.
 pub(crate) fn shortest<F: Field>(curves: &[Option<Curve<F>>], place: usize) -> Option<usize>
-    requires { (j : ℕ) (c : Curve F) → slot curves.now j ≡ Some c → place < length c.tile.items }
+    requires { (j : ℕ) (c : Curve F) → slot curves.now j ≡ Some c → place < length c.list.items }
     ensures none { result ≡ None → (j : ℕ) (c : Curve F) → slot curves.now j ≡ Some c
         → at_place F.ring place c ≡ F.ring.nil }
     ensures some { (p : ℕ) → result ≡ Some p → IsPivot F.ring place curves.now p }

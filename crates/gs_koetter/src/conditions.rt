@@ -45,12 +45,12 @@ pub(crate) fn handle<F: Field, P: Ledger>(
 
 /// The inverse of the curve's derivative at the place.
 fn inverse_at<F: Field, P: Ledger>(curve: &Curve<F>, place: usize, prods: &mut Steps<P>) -> F
-    requires inside { place < length curve.now.tile.items }
+    requires inside { place < length curve.now.list.items }
     requires nonzero { at_place F.ring place curve.now ≢ F.ring.nil }
     ensures inverse { F.ring.times (at_place F.ring place curve.now) result ≡ F.ring.unit }
     ensures products { prods.new ≤ prods.old + 1 }
 {
-    curve.tile[place].inv(prods).unwrap()
+    curve.list[place].inv(prods).unwrap()
 }
 
 /// The curve times x + a, or none where that is too heavy.

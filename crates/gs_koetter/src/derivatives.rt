@@ -1,6 +1,6 @@
 //! A curve's coefficients as a table, and all its derivatives at a point.
 
-ghost use Rattle.std.specs.Prelude.{◌≡◌, ℕ, ◌+◌, ◌*◌, ◌<◌, ◌≤◌, length};
+ghost use Rattle.std.specs.Prelude.{◌≡◌, ℕ, ◌+◌, ◌*◌, ◌<◌, ◌≤◌, length, drop};
 ghost use Rattle.algebra.specs.Lists.{coefficients};
 ghost use Rattle.decoding_terms.specs.Parameters.{term_count};
 ghost use Rattle.koetter_terms.specs.Curves.{curve};
@@ -38,15 +38,28 @@ pub(crate) fn lay_out<F: Field>(table: &mut [F], coefs: &[F], frame: &Frame)
 }
 
 /// Puts in the derivatives in their order, from a table with a row for each order in y and a column for each in x.
-pub(crate) fn pick<F: Field>(tile: &mut Vec<F>, table: &[F], orders: &Monomials)
+fn pick<F: Field>(tile: &mut [F], table: &[F], orders: &Monomials)
     requires by_one { orders.now.w ≡ 1 }
-    requires tile { length tile.old.items ≡ term_count 1 orders.now.e }
-    ensures each { (u v : ℕ) → u + v < orders.now.e → curve F.ring 1 tile.new.items u v
+    requires tile { length tile.old ≡ term_count 1 orders.now.e }
+    ensures each { (u v : ℕ) → u + v < orders.now.e → curve F.ring 1 tile.new u v
         ≡ entry F.ring orders.now.e table.now v u }
-    ensures length { length tile.new.items ≡ length tile.old.items }
+    ensures length { length tile.new ≡ length tile.old }
 {
     'orders: for k in 0..orders.terms.len() {
         let order = orders.terms[k];
         tile[k] = entry(table, order.y * orders.e + order.x);
     }
+}
+
+/// Puts in the derivatives in front of a curve's coefficients.
+pub(crate) fn pick_front<F: Field>(list: &mut [F], table: &[F], orders: &Monomials)
+    requires by_one { orders.now.w ≡ 1 }
+    requires room { term_count 1 orders.now.e ≤ length list.old }
+    ensures each { (u v : ℕ) → u + v < orders.now.e → curve F.ring 1 list.new u v
+        ≡ entry F.ring orders.now.e table.now v u }
+    ensures rest { drop (term_count 1 orders.now.e) list.new
+        ≡ drop (term_count 1 orders.now.e) list.old }
+    ensures length { length list.new ≡ length list.old }
+{
+    pick(&mut list[..orders.terms.len()], table, orders);
 }

@@ -40,7 +40,7 @@ impl Interpolate for Koetter {
     ) -> Result<BiPoly<F>, Memory> {
         let frame = frame(alloc, params)?;
         let kept = kept_curve(alloc, &frame, points, prods)?;
-        polynomial_of(alloc, &frame.terms.terms, &kept.coefs)
+        polynomial_of(alloc, &frame.terms.terms, &kept.list[kept.orders..])
     }
 }
 
@@ -85,14 +85,14 @@ fn zeros<F: Field>(alloc: Global, count: usize) -> Result<Vec<F>, AllocError>
 fn zero_curve<F: Field>(alloc: Global, frame: &Frame) -> Result<Curve<F>, AllocError>
     ensures lists { IfOk result (λ c. IsSpare frame.now.terms.w frame.now.terms.e
         frame.now.orders.e c) }
-    ensures zeros { IfOk result (λ c. (k : ℕ) → coefficients F.ring c.coefs.items k ≡ F.ring.nil) }
+    ensures zeros { IfOk result (λ c. (k : ℕ) → coefficients F.ring c.list.items k ≡ F.ring.nil) }
     ensures exponent { IfOk result (λ c. c.exponent ≡ 0) }
 {
-    let coefs = zeros(alloc, frame.terms.terms.len())?;
-    let tile = zeros(alloc, frame.orders.terms.len())?;
+    let orders = frame.orders.terms.len();
+    let list = zeros(alloc, orders + frame.terms.terms.len())?;
     Ok(Curve {
-        coefs,
-        tile,
+        list,
+        orders,
         len: 0,
         exponent: 0,
     })
@@ -111,7 +111,7 @@ fn first_curve<F: Field>(
         frame.now.orders.e j o) }
 {
     let mut curve = zero_curve(alloc, frame)?;
-    curve.coefs[first] = F::one();
+    curve.list[curve.orders + first] = F::one();
     curve.len = first + 1;
     Ok(Some(curve))
 }

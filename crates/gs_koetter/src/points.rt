@@ -9,7 +9,7 @@ ghost use Rattle.gs_koetter.specs.States.{AreDerived, IsBare, IsDerived, IsScrat
 
 use crate::conditions::handle_all;
 use crate::curve::Curve;
-use crate::derivatives::{lay_out, pick};
+use crate::derivatives::{lay_out, pick_front};
 use crate::expanding::{expand, fill_squares};
 use crate::frame::Frame;
 use crate::raising::shift;
@@ -44,12 +44,13 @@ fn derive<F: Field, P: Ledger>(
 {
     let side = frame.orders.e;
     let table = scratch.table.as_mut_slice();
-    lay_out(table, &curve.coefs[..curve.len], frame);
+    let end = curve.orders + curve.len;
+    lay_out(table, &curve.list[curve.orders..end], frame);
     expand(table, &scratch.xs, frame.xs.span, side * frame.width, prods);
     let turned = scratch.turned.as_mut_slice();
     shift(turned, table, &frame.turns);
     expand(turned, &scratch.ys, frame.ys.span, side * side, prods);
-    pick(&mut curve.tile, turned, &frame.orders);
+    pick_front(&mut curve.list, turned, &frame.orders);
 }
 
 /// Puts in the derivatives of all curves.

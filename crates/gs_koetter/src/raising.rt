@@ -1,6 +1,6 @@
 //! Curves multiplied by x + a.
 
-ghost use Rattle.std.specs.Prelude.{◌≡◌, ℕ, suc, ◌+◌, ◌*◌, ◌<◌, ◌≤◌, length, slice_index_or};
+ghost use Rattle.std.specs.Prelude.{◌≡◌, ℕ, suc, ◌+◌, ◌*◌, ◌<◌, ◌≤◌, length, take, drop, slice_index_or};
 ghost use Rattle.algebra.specs.Lists.{coefficients};
 ghost use Rattle.decoding_terms.specs.Parameters.{term_count};
 ghost use Rattle.koetter_terms.specs.Curves.{IsRaised, curve};
@@ -105,6 +105,41 @@ fn multiply<F: Field, P: Ledger>(
     add_front(target, source, len, a, prods);
 }
 
+/// Puts in the list of the product with x + a, from the list of a curve with so many derivatives and coefficients.
+fn raise_list<F: Field, P: Ledger>(
+    target: &mut [F],
+    source: &[F],
+    frame: &Frame,
+    len: usize,
+    runs: usize,
+    a: F,
+    prods: &mut Steps<P>,
+)
+    requires target { length target.old ≡ term_count 1 frame.now.orders.e
+        + term_count frame.now.terms.w frame.now.terms.e }
+    requires source { length source.now ≡ length target.old }
+    requires low { frame.now.terms.w * runs ≤ 8192 }
+    requires room { term_count 1 frame.now.orders.e + len + runs ≤ length source.now }
+    requires last { (q : ℕ) → q < runs
+        → term_count frame.now.terms.w (frame.now.terms.w * q) < len }
+    requires all { len ≤ term_count frame.now.terms.w (frame.now.terms.w * runs) }
+    requires rest { (k : ℕ) → term_count 1 frame.now.orders.e + len ≤ k
+        → coefficients F.ring source.now k ≡ F.ring.nil }
+    ensures length { length target.new ≡ length target.old }
+    ensures tile { IsRaised F.ring frame.now.orders.quotients.items F.ring.nil
+        (take (term_count 1 frame.now.orders.e) source.now)
+        (take (term_count 1 frame.now.orders.e) target.new) }
+    ensures coefs { IsRaised F.ring frame.now.terms.quotients.items a
+        (drop (term_count 1 frame.now.orders.e) source.now)
+        (drop (term_count 1 frame.now.orders.e) target.new) }
+    ensures products { prods.new ≡ prods.old + len }
+{
+    let orders = frame.orders.terms.len();
+    let (tile, coefs) = target.split_at_mut(orders);
+    shift(tile, &source[..orders], &frame.orders.quotients);
+    multiply(coefs, &source[orders..], &frame.terms, len, runs, a, prods);
+}
+
 /// Multiplies the curve by x + a, where a is the first coordinate of the point at hand. What is in `spare` is lost.
 pub(crate) fn raise<F: Field, P: Ledger>(
     curve: &mut Curve<F>,
@@ -126,18 +161,16 @@ pub(crate) fn raise<F: Field, P: Ledger>(
     ensures products { prods.new ≤ prods.old + term_count frame.now.terms.w frame.now.terms.e }
 {
     let runs = (curve.exponent + frame.terms.w * j) / frame.terms.w + 1;
-    multiply(
-        &mut spare.coefs,
-        &curve.coefs,
-        &frame.terms,
+    raise_list(
+        &mut spare.list,
+        &curve.list,
+        frame,
         curve.len,
         runs,
         a,
         prods,
     );
-    mem::swap(&mut curve.coefs, &mut spare.coefs);
-    shift(&mut spare.tile, &curve.tile, &frame.orders.quotients);
-    mem::swap(&mut curve.tile, &mut spare.tile);
+    mem::swap(&mut curve.list, &mut spare.list);
     curve.len += runs;
     curve.exponent += 1;
 }

@@ -9,13 +9,12 @@ returns-then-eq-clause-value g c =
     let R = g.F.Field.ring in
     let met = g.met.F.Field in
     let zero : at_place R c.args.place c.args.curve.now ≡ R.nil =
-    sym (read R g.F.Field.number met.same g.F.PartialEq.eq met.equal c.args.curve.now.tile.items c.args.place c.index.result.now (omega (arith, c.requires.inside, c.requires.room.tile)) c.index.ensures)
+    sym (read R g.F.Field.number met.same g.F.PartialEq.eq met.equal c.args.curve.now.list.items c.args.place c.index.result.now (omega (arith, c.requires.inside, c.requires.room.list)) c.index.ensures)
     ∙ zero_is R g.F.Field.number met.same g.F.PartialEq.eq met.equal c.eq.result c.index.result.now c.zero.result c.if-eq.true c.eq.ensures c.zero.ensures in
     record {
-      coefs = nothing_added R (at_place R c.args.place c.args.curve.now) c.args.inverse c.args.pivot.now.coefs.items c.args.curve.now.coefs.items zero;
-      tile = nothing_added R (at_place R c.args.place c.args.curve.now) c.args.inverse c.args.pivot.now.tile.items c.args.curve.now.tile.items zero;
-      coefs_long = refl;
-      tile_long = refl;
+      list = nothing_added R (at_place R c.args.place c.args.curve.now) c.args.inverse c.args.pivot.now.list.items c.args.curve.now.list.items zero;
+      long = refl;
+      orders = refl;
       len = refl;
       exponent = refl;
     }

@@ -10,6 +10,6 @@ returns-else-eq-clause-some g c n e =
       c.in-Some.curve,
       c.in-Some.is,
       (λ z. nonzero_is R g.F.Field.number met.same g.F.PartialEq.eq met.equal c.eq.result c.index.result.now c.zero.result c.if-eq.false c.eq.ensures c.zero.ensures
-          (read R g.F.Field.number met.same g.F.PartialEq.eq met.equal c.in-Some.curve.tile.items c.args.place c.index.result.now (c.requires c.in-Some.curve c.in-Some.is) c.index.ensures ∙ z)),
+          (read R g.F.Field.number met.same g.F.PartialEq.eq met.equal c.in-Some.curve.list.items c.args.place c.index.result.now (c.requires c.in-Some.curve c.in-Some.is) c.index.ensures ∙ z)),
       sym (ap (λ o. unwrap_or o n) e),
     )

@@ -9,7 +9,7 @@ pub shortest-requires : goal.shortest-requires
 shortest-requires g c j d is =
     let frame = c.args.frame.now in
     let orders : AreTermsBelow 1 frame.orders.e frame.orders.terms.items = subst (λ n. AreTermsBelow n frame.orders.e frame.orders.terms.items) frame.orders_by_one frame.orders.terms_are in
-    omega (arith, (c.requires.shape j d is).tile, orders.count, c.requires.place)
+    omega (arith, (c.requires.shape j d is).list, orders.count, c.requires.place)
 
 pub returns-in_default-clause-state : goal.returns-in_default-clause-state
 returns-in_default-clause-state g c i handled points b at state =

@@ -2,4 +2,4 @@ use Rattle.gs_koetter.proofs.Beginning.{zeros_at}
 use Rattle.gs_koetter.proofs.koetter.zero_curve.Goals as goal
 
 pub returns-clause-zeros : goal.returns-clause-zeros
-returns-clause-zeros g c = zeros_at g.F.Field.ring _ c.in_ok-coefs.coefs.items c.in_ok-coefs.ensures
+returns-clause-zeros g c = zeros_at g.F.Field.ring _ c.in_ok-list.list.items c.in_ok-list.ensures

@@ -7,7 +7,7 @@ use Rattle.gs_koetter.proofs.Stepping.{ended}
 use Rattle.gs_koetter.proofs.points.handle_point.Goals as goal
 
 pub derive_all-requires-clause-shape : goal.derive_all-requires-clause-shape
-derive_all-requires-clause-shape g c j d is = let whole = c.requires.shape j d is in record { coefs = whole.coefs; tile = whole.tile }
+derive_all-requires-clause-shape g c j d is = let whole = c.requires.shape j d is in record { list = whole.list; orders = whole.orders }
 
 pub derive_all-requires-clause-ended : goal.derive_all-requires-clause-ended
 derive_all-requires-clause-ended g c j d is =

@@ -1,4 +1,5 @@
-use Rattle.std.proofs.Common.{◌≡◌, ◌≢◌, ◌+◌, ◌*◌, ◌<◌, ◌≤◌, length, sym, ap₂, subst, arith}
+use Rattle.std.proofs.Common.{◌≡◌, ◌≢◌, ◌+◌, ◌*◌, ◌<◌, ◌≤◌, length, drop, ◌∙◌, sym, ap, ap₂, subst, arith}
+use Rattle.std.proofs.lemmas.List.{take_rest}
 use Rattle.std.specs.FinMap.{empty}
 use Rattle.std.specs.List.{All}
 use Rattle.algebra.specs.Bivariate.{HasMultiplicity, greatest, weight_by}
@@ -56,8 +57,9 @@ returns-clause-nonzero g c =
     let p = c.args.params.now in
     let frame = c.in_ok-frame.frame in
     ok_then (IsFound R c.args.points.now p.w p.e p.s) (λ q. q ≢ empty) c.polynomial_of.result (λ q is. is.nonzero)
-    (all_found R frame.terms.w frame.terms.e frame.width frame.orders.e p.w p.e p.s frame.terms.terms.items c.deref.result.now c.args.points.now c.in_ok-kept.kept c.deref-2.result.now c.polynomial_of.result frame.terms.some_weight
-    (some_weight p.w p.rows p.e p.some_weight p.weight) frame.all_powers frame.terms.terms_are c.in_ok-kept.ensures.result c.deref.ensures.value c.deref-2.ensures.value c.in_ok-frame.ensures.w c.in_ok-frame.ensures.e c.in_ok-frame.ensures.s c.polynomial_of.ensures)
+    (all_found R frame.terms.w frame.terms.e frame.width frame.orders.e p.w p.e p.s frame.terms.terms.items c.deref.result.now c.args.points.now c.in_ok-kept.kept _ c.polynomial_of.result frame.terms.some_weight
+    (some_weight p.w p.rows p.e p.some_weight p.weight) frame.all_powers frame.terms.terms_are c.in_ok-kept.ensures.result c.deref.ensures.value
+    (take_rest c.deref-2.result.now c.in_ok-kept.kept.orders ∙ ap (drop c.in_ok-kept.kept.orders) c.deref-2.ensures.value) c.in_ok-frame.ensures.w c.in_ok-frame.ensures.e c.in_ok-frame.ensures.s c.polynomial_of.ensures)
 
 pub returns-clause-light : goal.returns-clause-light
 returns-clause-light g c =
@@ -65,8 +67,9 @@ returns-clause-light g c =
     let p = c.args.params.now in
     let frame = c.in_ok-frame.frame in
     ok_then (IsFound R c.args.points.now p.w p.e p.s) (λ q. greatest (weight_by p.w) q < p.e) c.polynomial_of.result (λ q is. is.light)
-    (all_found R frame.terms.w frame.terms.e frame.width frame.orders.e p.w p.e p.s frame.terms.terms.items c.deref.result.now c.args.points.now c.in_ok-kept.kept c.deref-2.result.now c.polynomial_of.result frame.terms.some_weight
-    (some_weight p.w p.rows p.e p.some_weight p.weight) frame.all_powers frame.terms.terms_are c.in_ok-kept.ensures.result c.deref.ensures.value c.deref-2.ensures.value c.in_ok-frame.ensures.w c.in_ok-frame.ensures.e c.in_ok-frame.ensures.s c.polynomial_of.ensures)
+    (all_found R frame.terms.w frame.terms.e frame.width frame.orders.e p.w p.e p.s frame.terms.terms.items c.deref.result.now c.args.points.now c.in_ok-kept.kept _ c.polynomial_of.result frame.terms.some_weight
+    (some_weight p.w p.rows p.e p.some_weight p.weight) frame.all_powers frame.terms.terms_are c.in_ok-kept.ensures.result c.deref.ensures.value
+    (take_rest c.deref-2.result.now c.in_ok-kept.kept.orders ∙ ap (drop c.in_ok-kept.kept.orders) c.deref-2.ensures.value) c.in_ok-frame.ensures.w c.in_ok-frame.ensures.e c.in_ok-frame.ensures.s c.polynomial_of.ensures)
 
 pub returns-clause-multiplicity : goal.returns-clause-multiplicity
 returns-clause-multiplicity g c =
@@ -74,5 +77,6 @@ returns-clause-multiplicity g c =
     let p = c.args.params.now in
     let frame = c.in_ok-frame.frame in
     ok_then (IsFound R c.args.points.now p.w p.e p.s) (λ q. All (λ t. HasMultiplicity R p.s q t.0 t.1) c.args.points.now) c.polynomial_of.result (λ q is. is.multiplicity)
-    (all_found R frame.terms.w frame.terms.e frame.width frame.orders.e p.w p.e p.s frame.terms.terms.items c.deref.result.now c.args.points.now c.in_ok-kept.kept c.deref-2.result.now c.polynomial_of.result frame.terms.some_weight
-    (some_weight p.w p.rows p.e p.some_weight p.weight) frame.all_powers frame.terms.terms_are c.in_ok-kept.ensures.result c.deref.ensures.value c.deref-2.ensures.value c.in_ok-frame.ensures.w c.in_ok-frame.ensures.e c.in_ok-frame.ensures.s c.polynomial_of.ensures)
+    (all_found R frame.terms.w frame.terms.e frame.width frame.orders.e p.w p.e p.s frame.terms.terms.items c.deref.result.now c.args.points.now c.in_ok-kept.kept _ c.polynomial_of.result frame.terms.some_weight
+    (some_weight p.w p.rows p.e p.some_weight p.weight) frame.all_powers frame.terms.terms_are c.in_ok-kept.ensures.result c.deref.ensures.value
+    (take_rest c.deref-2.result.now c.in_ok-kept.kept.orders ∙ ap (drop c.in_ok-kept.kept.orders) c.deref-2.ensures.value) c.in_ok-frame.ensures.w c.in_ok-frame.ensures.e c.in_ok-frame.ensures.s c.polynomial_of.ensures)
