@@ -2,7 +2,6 @@
 use Rattle.std.proofs.Common.{◌≡◌, refl, ℕ, length}
 use Rattle.code_terms.specs.Words.{readable}
 use Rattle.sample_terms.specs.Copies.{copied_word}
-use Rattle.sample_terms.specs.Inputs.{variants}
 
 pub thirty : (number : ℕ) → readable (copied_word number) ≡ 30
 unfolding copied_word
@@ -11,7 +10,3 @@ thirty number = refl
 pub long : (number : ℕ) → length (copied_word number) ≡ 64
 unfolding copied_word
 long number = refl
-
-pub variants_are : variants ≡ 16384
-unfolding variants
-variants_are = refl

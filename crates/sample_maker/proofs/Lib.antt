@@ -1,6 +1,10 @@
-pub mod Registers
-pub mod Indexed
-pub mod Costs
 pub mod Copied
+pub mod Copies
+pub mod Costs
+pub mod Held
 pub mod Lines
+pub mod Lists
+pub mod Ranges
+pub mod Registers
+pub mod Titled
 pub mod Traced

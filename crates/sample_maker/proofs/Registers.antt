@@ -1,5 +1,5 @@
 -- The register of a sample grows by one licensee.
-use Rattle.std.proofs.Common.{◌≡◌, ◌≢◌, ◌∙◌, ℕ, ◌+◌, ◌<◌, ◌≤◌, ◌^◌, Bool, true, false, cond, List, [], ◌∷◌, ◌++◌, length, length-append, map, get_or, Option, Some, None, Result, Ok, Err, All, codes, sym, ap, ap₂, subst, refl, arith, nat_le, nat_lt}
+use Rattle.std.proofs.Common.{◌≡◌, ◌≢◌, ◌∙◌, ℕ, ◌+◌, ◌<◌, ◌≤◌, Bool, true, false, cond, List, [], length, length-append, map, get_or, Option, Some, None, Result, Ok, Err, codes, sym, ap, ap₂, subst, refl, arith, nat_le, nat_lt}
 use Rattle.std.specs.Prelude.{◌&&◌}
 use Rattle.std.specs.Fmt.{decimal}
 use Rattle.std.specs.List.{list_all, range_with_len}
@@ -19,7 +19,7 @@ use Rattle.register_terms.specs.declared.refusal.NameRefusal.TheVariants.{BadNam
 use Rattle.lic_register.specs.declared.errors.EnrolError.{EnrolError}
 use Rattle.lic_register.specs.declared.errors.EnrolError.TheVariants as errors
 use Rattle.lic_register.specs.Answers.{EnrolsAs}
-use Rattle.register_terms.specs.Enrolment.{Licensee, Enrolment, names_of, capacity, serial_of}
+use Rattle.register_terms.specs.Enrolment.{Licensee, Enrolment, names_of, serial_of}
 use Rattle.register_terms.specs.Rules.{with_licensees, with_name, serial_for, enrolment_of}
 use Rattle.register_terms.proofs.Serials.{differs_absent}
 use Rattle.sample_terms.specs.Inputs.{register_with, licensee, licensee_name}

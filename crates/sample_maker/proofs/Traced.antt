@@ -20,7 +20,7 @@ use Rattle.sample_terms.specs.Copies.{copied_symbol, copied_word, slot_of}
 use Rattle.sample_maker.proofs.Copied.{long, thirty}
 use Rattle.sample_maker.proofs.Registers.{bits_are, dimension_is}
 
-enrolled_are : (count number : ℕ) → length (register_with count number).licensees ≡ count
+pub enrolled_are : (count number : ℕ) → length (register_with count number).licensees ≡ count
 unfolding register_with
 enrolled_are count number = length-map-range_with_len licensee 0 count
 

@@ -1,16 +1,19 @@
 //! A large valid input that is made from a number, and whom the desk accuses in it.
 #![tactic(auto)]
 
-mod copy;
+mod copying;
 mod error;
+mod holding;
 mod numbers;
+mod playlists;
 mod register;
 mod sampling;
+mod source;
 mod summary;
 #[cfg(test)]
 mod tests;
+mod titling;
 mod tracing;
-mod twins;
 
 pub use error::SampleError;
 pub use sampling::sample;

@@ -1,7 +1,7 @@
 //! The numbers that a sample is made of.
 
-ghost use Rattle.std.specs.Prelude.{◌≡◌, ◌%◌, ◌^◌, ◌<◌};
-ghost use Rattle.sample_terms.specs.Numbers.{first_member, member_at, multiplier, second_member, seed_of, shift, third_member, word_number};
+ghost use Rattle.std.specs.Prelude.{◌≡◌, ◌+◌, ◌%◌, ◌^◌, ◌<◌};
+ghost use Rattle.sample_terms.specs.Numbers.{first_member, multiplier, second_member, seed_of, shift, third_member, word_number};
 
 use rand_chacha::ChaCha20Rng;
 use rand_core::SeedableRng;
@@ -67,15 +67,10 @@ pub(crate) fn third_member(number: u64) -> u32
     word_number(number, 4) % 1000
 }
 
-/// The serial of the member whose variant the copy has at a place.
-pub(crate) fn member_at(number: u64, place: u32) -> u32
+/// Whose turn it is at a place: the number of the member, 0 to 2.
+pub(crate) fn turn_at(number: u64, place: u32) -> u32
     requires { place < 64 }
-    ensures value { result ≡ member_at number place }
-    ensures below { result < 1000 }
+    ensures { result ≡ word_number number (5 + place) % 3 }
 {
-    match word_number(number, 5 + place) % 3 {
-        0 => first_member(number),
-        1 => second_member(number),
-        _ => third_member(number),
-    }
+    word_number(number, 5 + place) % 3
 }

@@ -1,29 +1,37 @@
 //! The whole sample.
 
-ghost use Rattle.std.specs.Prelude.{◌≡◌, ◌+◌, ◌<◌, ◌≤◌, ℕ, IfOk, None, Some};
+ghost use Rattle.std.specs.Prelude.{◌≡◌, ◌+◌, ◌≤◌, ℕ, IfOk, None};
 ghost use Rattle.coalition_terms.specs.Coalition.{IsTraced};
 ghost use Rattle.desk_terms.specs.Bounds.{tracing_bound};
 ghost use Rattle.desk_terms.specs.Roll.{roll_of};
 ghost use Rattle.list_decode.specs.Answers.{CostsAtMost};
 ghost use Rattle.sample_terms.specs.Copies.{word_of};
-ghost use Rattle.sample_terms.specs.Inputs.{register_of, twins, variants};
+ghost use Rattle.sample_terms.specs.Inputs.{register_of, title_of, twins, variants};
 ghost use Rattle.sample_terms.specs.Numbers.{coalition};
 ghost use Rattle.sample_terms.specs.Summary.{sampled, summary_of};
-ghost use Rattle.sample_maker.specs.Answers.{SamplesAs, twins_in};
+ghost use Rattle.sample_maker.specs.Answers.{SamplesAs};
+ghost use Rattle.sample_maker.specs.Copying.{copy_of};
+ghost use Rattle.sample_maker.specs.Holding.{HoldsVariants};
 
-use crate::copy::copied_word;
+use crate::copying::{copy_of, word_over};
 use crate::error::SampleError;
+use crate::numbers::{first_member, second_member, third_member};
+use crate::playlists::list_for;
 use crate::register::register_of;
 use crate::summary::summary;
+use crate::titling::title_over;
 use crate::tracing::findings_of;
-use crate::twins::first_twins;
 use gf2m::{Ledger, Steps};
 use gs_params::Interpolate;
+use lic_register::Register;
 use lists::Memory;
+use m3u8_text::MediaList;
+use shelf_io::MemShelf;
 use std::alloc::Global;
+use title_store::Title;
 
 /// The summary of the sample of this number: a register of 1,000 licensees, a title of 64 places and a copy that three of them
-/// put together, and whom the desk accuses.
+/// put together, and whom the desk accuses. It goes the whole way on a store in memory of its own.
 #[tactic(auto, unfolding(sample_terms::specs::Summary::sampled))]
 pub fn sample<I: Interpolate, P: Ledger, Q: Ledger>(
     alloc: Global,
@@ -38,30 +46,16 @@ pub fn sample<I: Interpolate, P: Ledger, Q: Ledger>(
     ensures traced { IfOk result (λ _. IsTraced (roll_of (register_of number))
         (word_of number) 3 (coalition number)) }
     ensures products { (curve : ℕ) → CostsAtMost I.cost 3 3 30 curve
-        → prods.new ≤ prods.old + tracing_bound curve 64 3 3 + 192 }
-    ensures looks { looks.new ≤ looks.old + 67 }
+        → prods.new ≤ prods.old + tracing_bound curve 64 3 3 + 1152 }
+    ensures looks { looks.new ≤ looks.old + 76 }
 {
-    match first_twins(alloc, number, 16384) {
-        Ok(None) => match traced(alloc, number, by, prods, looks) {
+    let mut shelf = MemShelf::new(alloc);
+    match title_over(alloc, number, &mut shelf) {
+        Ok(title) => match traced(alloc, number, &mut shelf, &title, by, prods, looks) {
             Ok(text) => Ok(text),
             Err(Memory) => Err(SampleError::Memory),
         },
-        Ok(Some((earlier, later))) => Err(duplicate(earlier, later)),
-        Err(Memory) => Err(SampleError::Memory),
-    }
-}
-
-/// What is answered where these two variants have one digest.
-fn duplicate(earlier: u32, later: u32) -> SampleError
-    requires earlier { earlier < 16384 }
-    requires later { later < 16384 }
-    ensures { twins_in result ≡ Some (earlier, later) }
-{
-    SampleError::Duplicate {
-        place: earlier / 256,
-        symbol: (earlier % 256) as u8,
-        again_place: later / 256,
-        again_symbol: (later % 256) as u8,
+        Err(error) => Err(error),
     }
 }
 
@@ -69,22 +63,51 @@ fn duplicate(earlier: u32, later: u32) -> SampleError
 fn traced<I: Interpolate, P: Ledger, Q: Ledger>(
     alloc: Global,
     number: u64,
+    shelf: &mut MemShelf,
+    title: &Title,
     by: &I,
     prods: &mut Steps<P>,
     looks: &mut Steps<Q>,
 ) -> Result<Vec<u8>, Memory>
-    requires { twins number variants ≡ None }
+    requires alone { twins number variants ≡ None }
+    requires held { HoldsVariants number shelf.old.blobs variants }
+    requires title { title.now ≡ title_of number }
     ensures summary { IfOk result (λ text. text.items ≡ summary_of number) }
     ensures traced { IfOk result (λ _. IsTraced (roll_of (register_of number))
         (word_of number) 3 (coalition number)) }
     ensures products { (curve : ℕ) → CostsAtMost I.cost 3 3 30 curve
-        → prods.new ≤ prods.old + tracing_bound curve 64 3 3 + 192 }
-    ensures looks { looks.new ≤ looks.old + 67 }
+        → prods.new ≤ prods.old + tracing_bound curve 64 3 3 + 576 }
+    ensures looks { looks.new ≤ looks.old + 73 }
 {
     let register = register_of(alloc, number)?;
     let _licensees = register.len();
-    let word = copied_word(alloc, number, prods)?;
+    let copy = mixed_copy(alloc, number, title, &register, prods, looks)?;
+    let word = word_over(alloc, number, shelf, title, &copy)?;
     let found = findings_of(alloc, &register, &word, by, prods, looks)?;
     let text = summary(alloc, number, &found)?;
     Ok(text)
+}
+
+/// The copy that the three members put together from the playlists that they get.
+fn mixed_copy<P: Ledger, Q: Ledger>(
+    alloc: Global,
+    number: u64,
+    title: &Title,
+    register: &Register,
+    prods: &mut Steps<P>,
+    looks: &mut Steps<Q>,
+) -> Result<MediaList, Memory>
+    requires title { title.now ≡ title_of number }
+    requires register { register.now ≡ register_of number }
+    ensures copy { IfOk result (λ copy. copy ≡ copy_of number 30) }
+    ensures products { prods.new ≤ prods.old + 576 }
+    ensures looks { looks.new ≤ looks.old + 6 }
+{
+    let one = first_member(number);
+    let two = second_member(number);
+    let three = third_member(number);
+    let first = list_for(alloc, number, title, register, one, prods, looks)?;
+    let second = list_for(alloc, number, title, register, two, prods, looks)?;
+    let third = list_for(alloc, number, title, register, three, prods, looks)?;
+    copy_of(alloc, number, &first, &second, &third)
 }
