@@ -5,6 +5,8 @@ mod checking;
 mod listed;
 mod missing;
 mod places;
+mod rows;
+mod slots;
 #[cfg(test)]
 mod tests;
 

@@ -1,14 +1,16 @@
 //! Those who are missing in the list.
 
-ghost use Rattle.std.specs.Prelude.{◌≡◌, ◌<◌, length, true, drop, IsTrue};
+ghost use Rattle.std.specs.Prelude.{◌≡◌, ℕ, ◌<◌, ◌≤◌, List, Option, length, true, drop, IsTrue};
 ghost use Rattle.decoding_terms.specs.Parameters.{is_allowed_bound};
 ghost use Rattle.desk_terms.specs.Findings.{is_accused};
 ghost use Rattle.desk_terms.specs.Roll.{roll_of};
 ghost use Rattle.report_terms.specs.Verdicts.{first_missed};
+ghost use Rattle.report_check.specs.Shown.{AreRows, AreSlots};
 ghost use Rattle.report_check.specs.Walks.{Ascend, is_next, position_after};
 
 use crate::listed::message_at;
-use crate::places::meets;
+use crate::rows::Rows;
+use crate::slots::Slots;
 use desk_terms::Accused;
 use gf2m::Field;
 use lic_register::Register;
@@ -16,7 +18,7 @@ use rs_code::{Code, Word};
 use steps::{Ledger, Steps};
 
 /// The serial of the first licensee who meets the threshold and is not in the list. It walks the register once, and the list
-/// beside it.
+/// beside it. Before that it makes the rows of the code, so that no product is left for the walk.
 pub(crate) fn first_missed<F: Field, P: Ledger, Q: Ledger>(
     accused: &[Accused],
     register: &Register,
@@ -33,10 +35,12 @@ pub(crate) fn first_missed<F: Field, P: Ledger, Q: Ledger>(
     requires order { Ascend 0 accused.now }
     ensures { result ≡ first_missed (roll_of register.now) word.now bound accused.now }
 {
+    let rows = Rows::of(code, prods);
+    let slots = Slots::of(word);
     let mut position = 0;
     'serials: for serial in 0..register.len() {
         match position_after(
-            accused, position, serial, register, code, word, bound, prods, looks,
+            accused, position, serial, register, &rows, &slots, bound, looks,
         ) {
             Some(next) => position = next,
             None => return Some(serial),
@@ -46,34 +50,54 @@ pub(crate) fn first_missed<F: Field, P: Ledger, Q: Ledger>(
 }
 
 /// The position in the list behind the licensee of this serial; `None` where the licensee is missing there.
-fn position_after<F: Field, P: Ledger, Q: Ledger>(
+fn position_after<Q: Ledger>(
     accused: &[Accused],
     position: usize,
     serial: u32,
     register: &Register,
-    code: &Code<F>,
-    word: &Word,
+    rows: &Rows,
+    slots: &Slots,
     bound: u32,
-    prods: &mut Steps<P>,
     looks: &mut Steps<Q>,
 ) -> Option<usize>
-    requires bits { F.BITS ≡ register.now.bits }
-    requires dimension { code.now.dimension ≡ register.now.dimension }
-    requires length { length word.now ≡ code.now.places }
-    requires bound { is_allowed_bound code.now.dimension bound ≡ true }
+    requires bound { bound ≤ 8 }
     requires serial { serial < length register.now.licensees }
-    ensures { result ≡ position_after (drop position accused.now) position serial
-        (is_accused (roll_of register.now) word.now bound serial) }
+    ensures { (word : List (Option ℕ))
+        → AreRows register.now.bits register.now.dimension (length word) rows.now.digits
+        rows.now.rows
+        → AreSlots word slots.now.places slots.now.readable slots.now.symbols slots.now.known
+        → result ≡ position_after (drop position accused.now) position serial
+        (is_accused (roll_of register.now) word bound serial) }
 {
     if is_next(accused, position, serial) {
         return Some(position + 1);
     }
-    let message = message_at(register, serial, looks).unwrap();
-    if meets(message, code, word, bound, prods) {
+    if meets(serial, register, rows, slots, bound, looks) {
         None
     } else {
         Some(position)
     }
+}
+
+/// Whether the licensee of this serial meets the threshold of this bound.
+fn meets<Q: Ledger>(
+    serial: u32,
+    register: &Register,
+    rows: &Rows,
+    slots: &Slots,
+    bound: u32,
+    looks: &mut Steps<Q>,
+) -> bool
+    requires bound { bound ≤ 8 }
+    requires serial { serial < length register.now.licensees }
+    ensures { (word : List (Option ℕ))
+        → AreRows register.now.bits register.now.dimension (length word) rows.now.digits
+        rows.now.rows
+        → AreSlots word slots.now.places slots.now.readable slots.now.symbols slots.now.known
+        → result ≡ is_accused (roll_of register.now) word bound serial }
+{
+    let message = message_at(register, serial, looks).unwrap();
+    slots.meets(&rows.symbols_of(message), bound)
 }
 
 /// Whether this serial stands at this position.

@@ -36,10 +36,10 @@ fn pair(alloc: Global) -> Result<Register, Memory>
     }
 }
 
-/// Both places are the second licensee's, of whom these places are told.
+/// Both places are the second licensee's, who is in the list with these places, or is not in it.
 fn verdict<P: Ledger, Q: Ledger>(
     alloc: Global,
-    places: &[u16],
+    places: Option<&[u16]>,
     prods: Blank,
     looks: Blank,
 ) -> Result<Verdict, Memory>
@@ -51,11 +51,13 @@ fn verdict<P: Ledger, Q: Ledger>(
     requires looks_some { 0 < Q.parts }
 {
     let mut accused = Vec::new(alloc);
-    accused.push(Accused {
-        serial: 1,
-        name: Text::of(alloc, "lic1")?,
-        places: Items::over(places.to_vec(alloc)?),
-    })?;
+    if let Some(places) = places {
+        accused.push(Accused {
+            serial: 1,
+            name: Text::of(alloc, "lic1")?,
+            places: Items::over(places.to_vec(alloc)?),
+        })?;
+    }
     let findings = Findings {
         readable: 2,
         bound: 1,
@@ -70,11 +72,13 @@ fn verdict<P: Ledger, Q: Ledger>(
 }
 
 #[test]
-fn one_is_right_and_one_is_wrong(rt: HostRuntime) -> Result<(), Fail> {
+fn lists_are_judged(rt: HostRuntime) -> Result<(), Fail> {
     let alloc = rt.alloc();
-    let right = verdict::<Brand, Brand>(alloc, &[0, 1], Blank::new(1), Blank::new(1))?;
+    let right = verdict::<Brand, Brand>(alloc, Some(&[0, 1]), Blank::new(1), Blank::new(1))?;
     assert_eq!(rt; right, Verdict::Right);
-    let wrong = verdict::<Brand, Brand>(alloc, &[0], Blank::new(1), Blank::new(1))?;
+    let wrong = verdict::<Brand, Brand>(alloc, Some(&[0]), Blank::new(1), Blank::new(1))?;
     assert_eq!(rt; wrong, Verdict::WrongPlaces(0));
+    let missing = verdict::<Brand, Brand>(alloc, None, Blank::new(1), Blank::new(1))?;
+    assert_eq!(rt; missing, Verdict::Absent(1));
     Ok(())
 }

@@ -1,4 +1,4 @@
-use Rattle.report_check.proofs.tests.one_is_right_and_one_is_wrong.Given as goal
+use Rattle.report_check.proofs.tests.lists_are_judged.Given as goal
 
 abbrev pub ghosts-verdict-P-Ledger : goal.ghosts-verdict-P-Ledger
 ghosts-verdict-P-Ledger g a = record { name = a.prods.name; parts = a.prods.parts }
