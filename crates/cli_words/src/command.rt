@@ -90,6 +90,11 @@ pub enum Command<'a> {
         /// Size of the largest coalition to allow for.
         c: u128,
     },
+    /// Makes a large input from a number, and says whom the desk accuses in it.
+    Sample {
+        /// The number.
+        number: u64,
+    },
 }
 
 /// The name of a command, which is its first word.
@@ -111,11 +116,13 @@ pub enum CommandName {
     Check,
     /// `accuse`
     Accuse,
+    /// `sample`
+    Sample,
 }
 
 impl CommandName {
     /// All names, in the order in which an operator needs the commands.
-    pub const ALL: [CommandName; 8] = [
+    pub const ALL: [CommandName; 9] = [
         CommandName::Register,
         CommandName::Enrol,
         CommandName::Withdraw,
@@ -124,6 +131,7 @@ impl CommandName {
         CommandName::Trace,
         CommandName::Check,
         CommandName::Accuse,
+        CommandName::Sample,
     ];
 
     /// The word that stands for the command.
@@ -139,6 +147,7 @@ impl CommandName {
             CommandName::Trace => "trace",
             CommandName::Check => "check",
             CommandName::Accuse => "accuse",
+            CommandName::Sample => "sample",
         }
     }
 
@@ -155,6 +164,7 @@ impl CommandName {
             CommandName::Trace => "TITLE REG COPY C",
             CommandName::Check => "TITLE REG COPY REPORT",
             CommandName::Accuse => "REG WORD C",
+            CommandName::Sample => "NUMBER",
         }
     }
 }
@@ -171,6 +181,7 @@ impl Command<'_> {
             Command::Trace { .. } => CommandName::Trace,
             Command::Check { .. } => CommandName::Check,
             Command::Accuse { .. } => CommandName::Accuse,
+            Command::Sample { .. } => CommandName::Sample,
         }
     }
 }

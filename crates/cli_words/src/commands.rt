@@ -15,6 +15,7 @@ ghost use Rattle.outcome_terms.specs.PackageCommand.{package_of};
 ghost use Rattle.outcome_terms.specs.TraceCommand.{trace_of};
 ghost use Rattle.outcome_terms.specs.CheckCommand.{check_of};
 ghost use Rattle.outcome_terms.specs.AccuseCommand.{accuse_of};
+ghost use Rattle.outcome_terms.specs.SampleCommand.{sample_of, seed_in};
 ghost use Rattle.outcome_terms.specs.Commands.{request_of};
 ghost use Rattle.cli_words.specs.Requests.{request, HasNames};
 
@@ -44,6 +45,8 @@ pub fn read_words<'a>(words: &'a [String]) -> Option<Command<'a>>
         check_words(arguments)
     } else if is_word(command, "accuse") {
         accuse_words(arguments)
+    } else if is_word(command, "sample") {
+        sample_words(arguments)
     } else {
         None
     }
@@ -70,6 +73,14 @@ fn number(word: &String) -> Option<u128>
     ensures { result ≡ number_of (string_bytes word.now) }
 {
     read_number(word.as_str())
+}
+
+/// The number of eight bytes that the word spells, if it spells one.
+fn seed(word: &String) -> Option<u64>
+    ensures { result ≡ seed_in (string_bytes word.now) }
+{
+    let number = number(word)?;
+    u64::try_from(number).ok()
 }
 
 /// The command `register` with these words.
@@ -230,4 +241,17 @@ fn accuse_words<'a>(arguments: &'a [String]) -> Option<Command<'a>>
     let word = named(word)?;
     let c = number(c)?;
     Some(Command::Accuse { reg, word, c })
+}
+
+/// The command `sample` with these words.
+#[tactic(auto, unfolding(outcome_terms::specs::SampleCommand::sample_of))]
+fn sample_words<'a>(arguments: &'a [String]) -> Option<Command<'a>>
+    ensures asked { option_map request result ≡ sample_of (map string_bytes arguments.now) }
+    ensures names { IfSome result HasNames }
+{
+    let [number] = arguments else {
+        return None;
+    };
+    let number = seed(number)?;
+    Some(Command::Sample { number })
 }

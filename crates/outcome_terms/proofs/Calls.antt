@@ -14,7 +14,7 @@ use Rattle.outcome_terms.specs.declared.fault.Fault.TheVariants as fault
 use Rattle.outcome_terms.specs.declared.refusal.Refusal.{Refusal}
 use Rattle.outcome_terms.specs.declared.refusal.Refusal.TheVariants as refusal
 use Rattle.outcome_terms.specs.Statuses.{fault_line, refusal_status, status_code}
-use Rattle.outcome_terms.specs.Request.{Request, Make, Enrol, Withdraw, MakeTitle, Package, Trace, Check, Accuse}
+use Rattle.outcome_terms.specs.Request.{Request, Make, Enrol, Withdraw, MakeTitle, Package, Trace, Check, Accuse, Sample}
 use Rattle.outcome_terms.specs.Reading.{Reading, Within}
 use Rattle.outcome_terms.specs.Stores.{Store, NoneFell, Caused, Writing}
 use Rattle.outcome_terms.specs.RegisterCommand.{make, make_statuses}
@@ -25,12 +25,13 @@ use Rattle.outcome_terms.specs.PackageCommand.{package_, package_statuses}
 use Rattle.outcome_terms.specs.TraceCommand.{trace, trace_statuses}
 use Rattle.outcome_terms.specs.CheckCommand.{check, check_statuses}
 use Rattle.outcome_terms.specs.AccuseCommand.{accuse, accuse_statuses}
+use Rattle.outcome_terms.specs.SampleCommand.{sample, sample_statuses}
 use Rattle.outcome_terms.specs.Commands.{Deed, Nothing, Put, Write, deed, request_of, may_end}
 use Rattle.outcome_terms.specs.Outcome.{Effect, Puts, Wrote, outcome, outcome_of, outcome_status, is_free_status, LeavesEffect, Performs, unknown, made, not_made, wrote, stopped, lost, DeedAsks, deed_names, written_name, refused_by_words}
 use Rattle.outcome_terms.specs.Output.{Output, PutFailed, Delivers, TellsAnswer}
 use Rattle.outcome_terms.specs.Call.{Ends, row_behind, row, IsRefused, may_change, SparesBlobs, TellsWhole, HasEffect, KeepsOutput, StatusCauses, GetsSoFar}
 use Rattle.outcome_terms.proofs.Following.{over_told}
-use Rattle.outcome_terms.proofs.Rows.{make_within, withdraw_within, enrol_within, accuse_within}
+use Rattle.outcome_terms.proofs.Rows.{make_within, withdraw_within, enrol_within, accuse_within, sample_within}
 use Rattle.outcome_terms.proofs.TitleRows.{title_within, package_within, trace_within, check_within}
 use Rattle.outcome_terms.proofs.Performing.{Gives, Stands, performs_none_fell, performs_caused, performs_asks, performs_asked, performs_writes, performs_known, performs_gives, performs_only, performs_kept, performs_put_kept, performs_spared, performs_leaves, performs_stands, put_within, write_within, write_puts_none, keeps_blobs}
 
@@ -111,12 +112,12 @@ refusal_causes old new rose _ fell h = record { missing = λ is. cc; read_fault 
 
 -- ---- the status of an answer
 
-abbrev EndsWith : Result (Option (List ℕ)) Refusal → Status → Type 0 → Type 0
+abbrev pub EndsWith : Result (Option (List ℕ)) Refusal → Status → Type 0 → Type 0
 EndsWith (Ok (Some text)) s rose = (s ≡ status.Ok) ⊎ (((s ≡ status.OutFault) × rose) ⊎ (s ≡ status.Memory))
 EndsWith (Ok None) s rose = s ≡ status.Ok
 EndsWith (Err e) s rose = (s ≡ refusal_status e) ⊎ (s ≡ status.Memory)
 
-ends_with : (answer : Result (Option (List ℕ)) Refusal) (s : Status) (before after : Output) → Delivers answer s before after → EndsWith answer s (PutFailed before after)
+pub ends_with : (answer : Result (Option (List ℕ)) Refusal) (s : Status) (before after : Output) → Delivers answer s before after → EndsWith answer s (PutFailed before after)
 ends_with (Ok (Some text)) s before after d = d.ends
 ends_with (Ok None) s before after d = d.ends
 ends_with (Err e) s before after d = d.ends
@@ -184,6 +185,7 @@ deed_known (Some (Package name register licensee out)) is = cc
 deed_known (Some (Trace name register copy c)) is = cc
 deed_known (Some (Check name register copy reported)) is = cc
 deed_known (Some (Accuse register word c)) is = cc
+deed_known (Some (Sample number)) is = cc
 
 -- ---- rows
 
@@ -252,6 +254,8 @@ status_row (Some (Check name register copy reported)) answer st rose p ends =
     by_words (Put (check name register copy reported)) answer st rose check_statuses p ends (λ is. put_row answer st rose (may_end check_statuses) refl refl refl (check_within name register copy reported) p ends)
 status_row (Some (Accuse register word c)) answer st rose p ends =
     by_words (Put (accuse register word c)) answer st rose accuse_statuses p ends (λ is. put_row answer st rose (may_end accuse_statuses) refl refl refl (accuse_within register word c) p ends)
+status_row (Some (Sample number)) answer st rose p ends =
+    by_words (Put (sample number)) answer st rose sample_statuses p ends (λ is. put_row answer st rose (may_end sample_statuses) refl refl refl (sample_within number is) p ends)
 
 -- ---- what the words refuse
 
@@ -293,7 +297,7 @@ status_keeps (Err e) st rose p (inr memory) h = changes_no_more st status.Memory
 
 -- ---- the effect
 
-whole_told : (s : Status) (text : List ℕ) (old new : Option (List ℕ)) → s ≡ status.Ok → TellsAnswer s text old new → TellsWhole text old new
+pub whole_told : (s : Status) (text : List ℕ) (old new : Option (List ℕ)) → s ≡ status.Ok → TellsAnswer s text old new → TellsWhole text old new
 whole_told s text (Some old) (Some new) ok h = h.whole ok
 whole_told s text None None ok h = tt
 whole_told s text None (Some new) ok h = h
@@ -308,7 +312,7 @@ effect_of (Ok (Wrote out writing)) blobs told (Some put) s before after ok h d =
 effect_of (Ok (Wrote out writing)) blobs told None s before after ok h d = (h.0, d.same)
 effect_of (Err e) blobs told left s before after ok h d = absurd h
 
-refusal_not_done : {X : Type 0} (e : Refusal) (s : Status) (rose : Type 0) → EndsWith (Err e) s rose → s ≡ status.Ok → X
+pub refusal_not_done : {X : Type 0} (e : Refusal) (s : Status) (rose : Type 0) → EndsWith (Err e) s rose → s ≡ status.Ok → X
 refusal_not_done e s rose (inl is) ok = absurd (never_done e (sym is ∙ ok))
 refusal_not_done e s rose (inr memory) ok = let no : status.Memory ≡ status.Ok = sym memory ∙ ok in cc
 

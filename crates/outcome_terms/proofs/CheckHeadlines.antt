@@ -1,5 +1,5 @@
 -- What a done `check` says, from what its reading gave.
-use Rattle.std.proofs.Common.{◌≡◌, ◌∙◌, ℕ, List, true, Option, Some, Ok, refl, sym, ap}
+use Rattle.std.proofs.Common.{◌≡◌, ◌∙◌, ℕ, List, Option, Ok, refl, sym, ap}
 use Rattle.shelf_terms.specs.Blobs.{Blobs}
 use Rattle.register_terms.specs.Enrolment.{Enrolment}
 use Rattle.decoder_terms.specs.Decoding.{not_enough}
@@ -11,11 +11,10 @@ use Rattle.report_terms.specs.Verdicts.{verdict}
 use Rattle.report_terms.specs.declared.verdict.Verdict.{Verdict}
 use Rattle.report_terms.specs.declared.verdict.Verdict.TheVariants as verdicts
 use Rattle.outcome_terms.specs.declared.fault.Fault.TheVariants.{BadBound, BadReport}
-use Rattle.outcome_terms.specs.Reading.{Give, blob, found, given}
+use Rattle.outcome_terms.specs.Reading.{blob, found, given}
 use Rattle.outcome_terms.specs.Registers.{register_under}
 use Rattle.outcome_terms.specs.PackageCommand.{title_under, mismatch}
 use Rattle.outcome_terms.specs.TraceCommand.{is_served, word_shown}
-use Rattle.outcome_terms.specs.TraceReports.{word_held}
 use Rattle.outcome_terms.specs.CheckCommand.{findings_under, right_line, told_verdict, judged, check}
 use Rattle.outcome_terms.specs.CheckReports.{HoldsReport, IsCheckedRight}
 use Rattle.outcome_terms.proofs.Givens.{took, met, was_given, was_held}

@@ -1,9 +1,8 @@
 -- With which statuses the readings of the commands can refuse.
 use Rattle.std.proofs.Common.{◌≡◌, ℕ, List, Bool, true, false, Option, Some, None, Result, Ok, Err, refl}
-use Rattle.std.specs.Prelude.{not, nat_lt, length}
+use Rattle.std.specs.Prelude.{not, nat_lt}
 use Rattle.std.specs.Option.{option_map}
 use Rattle.std.specs.Str.{bytes_eq}
-use Rattle.text_terms.specs.Names.{is_plain}
 use Rattle.code_terms.specs.declared.word_fault.WordFault.{WordFault}
 use Rattle.code_terms.specs.Words.{readable}
 use Rattle.code_terms.specs.WordText.{word_of}
@@ -24,6 +23,8 @@ use Rattle.outcome_terms.specs.RegisterCommand.{make, make_statuses}
 use Rattle.outcome_terms.specs.EnrolCommand.{enrolled, enrol, enrol_statuses}
 use Rattle.outcome_terms.specs.WithdrawCommand.{withdrawn, withdraw, withdraw_statuses}
 use Rattle.outcome_terms.specs.AccuseCommand.{allowed, word_under, report, accuse, accuse_statuses}
+use Rattle.outcome_terms.specs.SampleCommand.{same_digest, sample, sample_statuses}
+use Rattle.sample_terms.specs.Summary.{sampled}
 use Rattle.outcome_terms.specs.Commands.{may_end}
 use Rattle.outcome_terms.specs.Outcome.{first_refusal}
 
@@ -70,6 +71,12 @@ module _ (may : Status → Bool) where
   within_unbroken : {A X : Type 0} (fault : X → Fault) (broken : Option X) (next : Reading A) → first_refusal (option_map fault broken >> next) ≡ None → (first_refusal next ≡ None → Within may next) → Within may (option_map fault broken >> next)
   within_unbroken fault None next is h = h is
   within_unbroken fault (Some x) next is h = cc
+
+  -- where the words do not refuse, there is a value
+  within_said : {A F : Type 0} (fault : F → Fault) (r : Result A F) → first_refusal (understood fault r) ≡ None → Within may (understood fault r)
+  unfolding Within
+  within_said fault (Ok x) is = tt
+  within_said fault (Err f) is = cc
 
   pub register_within : (name : List ℕ) → AllowsReads may → ((f : RegisterFault) → may (fault_line (BadRegister f)).status ≡ true) → Within may (register_under name)
   unfolding register_under
@@ -138,3 +145,7 @@ accuse_within register word c =
     within_then may (register_under register) _ (register_within may register reads (λ f. refl)) (λ e.
     within_then may (allowed e.dimension c) _ (allowed_within e.dimension c) (λ bound.
     within_then may (word_under word e.bits) _ (word_within may word e.bits reads (λ f. refl)) (λ slots. report_within e slots bound)))
+
+pub sample_within : (number : ℕ) → first_refusal (sample number) ≡ None → Within (may_end sample_statuses) (sample number)
+unfolding sample
+sample_within number is = within_said (may_end sample_statuses) same_digest (sampled number) is

@@ -1,15 +1,21 @@
 -- What a call takes over blobs that are told.
-use Rattle.std.proofs.Common.{◌≡◌, ℕ, Option, Some, None, Result, Ok, Err, sym, ap, subst, arith}
+use Rattle.std.proofs.Common.{◌≡◌, ℕ, ◌+◌, ◌≤◌, List, length, Option, Some, None, Result, Ok, Err, sym, ap, subst, arith}
 use Rattle.std.specs.Option.{IfSome}
 use Rattle.shelf_terms.specs.Blobs.{Blobs}
 use Rattle.outcome_terms.specs.declared.refusal.Refusal.{Refusal}
 use Rattle.outcome_terms.specs.Reading.{Reading, given}
 use Rattle.outcome_terms.specs.Stores.{Store}
-use Rattle.outcome_terms.specs.Traces.{Trace, Counted, IsWithin}
+use Rattle.desk_terms.specs.Bounds.{look_bound, tracing_bound}
+use Rattle.outcome_terms.specs.Traces.{Trace, Counted, IsWithin, trace_at}
 use Rattle.outcome_terms.specs.Spending.{Spends, nothing, traced, SpendsAtMost, TakesGiven, TakesAtMost}
 use Rattle.outcome_terms.proofs.Following.{decided, over_told}
 
 module _ (costs : Trace → ℕ → Type 0) (old new : Counted) where
+  -- a trace with nothing beside it
+  pub alone : (k : ℕ) (word : List (Option ℕ)) (c : ℕ) → ((curve : ℕ) → costs (trace_at k word c) curve → new.products ≤ old.products + tracing_bound curve (length word) k c)
+      → new.looks ≤ old.looks + look_bound (length word) c → IsWithin costs (trace_at k word c) old new
+  alone k word c products looks = record { products = λ curve most. omega (arith, products curve most); looks = omega (arith, looks) }
+
   -- where nothing is taken, no bound is passed
   nothing_within : new ≡ old → (trace : Trace) → IsWithin costs trace old new
   nothing_within same trace =

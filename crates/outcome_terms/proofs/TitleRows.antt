@@ -1,5 +1,5 @@
 -- With which statuses the readings of the commands on titles can refuse.
-use Rattle.std.proofs.Common.{◌≡◌, ℕ, List, [], ◌∷◌, Bool, true, Option, Some, None, refl}
+use Rattle.std.proofs.Common.{◌≡◌, ℕ, List, [], ◌∷◌, Bool, true, Option, None, refl}
 use Rattle.std.specs.Prelude.{not, ◌||◌, nat_lt}
 use Rattle.std.specs.List.{position}
 use Rattle.std.specs.Str.{bytes_eq}
@@ -7,7 +7,6 @@ use Rattle.sha2.specs.Sha256.{sha256}
 use Rattle.code_terms.specs.Words.{readable}
 use Rattle.register_terms.specs.Enrolment.{Enrolment, names_of, serial_of}
 use Rattle.register_terms.specs.Rules.{is_active}
-use Rattle.register_terms.specs.RegisterText.{RegisterFault}
 use Rattle.decoder_terms.specs.Decoding.{not_enough}
 use Rattle.playlist_terms.specs.Playlists.{Playlist}
 use Rattle.playlist_terms.specs.Reading.{playlist_of}
@@ -26,10 +25,9 @@ use Rattle.report_terms.specs.Verdicts.{verdict}
 use Rattle.report_terms.specs.declared.verdict.Verdict.{Verdict}
 use Rattle.report_terms.specs.declared.verdict.Verdict.TheVariants as verdicts
 use Rattle.outcome_terms.specs.declared.status.Status.{Status}
-use Rattle.outcome_terms.specs.declared.fault.Fault.{Fault}
-use Rattle.outcome_terms.specs.declared.fault.Fault.TheVariants.{BadDesign, BadPlaylist, BadTitle, BadRegister, BadReport, BadBound, TooFew, NoSegment, Unknown, Withdrawn, SameName}
+use Rattle.outcome_terms.specs.declared.fault.Fault.TheVariants.{BadDesign, BadPlaylist, BadTitle, BadReport, BadBound, TooFew, NoSegment, Unknown, Withdrawn, SameName}
 use Rattle.outcome_terms.specs.Statuses.{fault_line}
-use Rattle.outcome_terms.specs.Reading.{Reading, Give, ◌>>=◌, ◌>>◌, found, blob, understood, each, AllowsReads, Within}
+use Rattle.outcome_terms.specs.Reading.{Reading, found, blob, each, AllowsReads, Within}
 use Rattle.outcome_terms.specs.Registers.{register_under}
 use Rattle.outcome_terms.specs.Along.{along}
 use Rattle.outcome_terms.specs.TitleCommand.{design_under, playlist_under, digest_under, same_digest, with_digest, with_variant, title_made, title, title_statuses}

@@ -1,17 +1,9 @@
 -- What a done `trace` says, from what its reading gave.
-use Rattle.std.proofs.Common.{◌≡◌, ◌∙◌, ℕ, ◌<◌, List, [], ◌∷◌, true, Option, Some, None, Ok, All, refl, sym, ap, arith}
-use Rattle.std.specs.Prelude.{nat_lt, map}
+use Rattle.std.proofs.Common.{◌≡◌, ◌∙◌, ℕ, List, [], ◌∷◌, Option, Ok, All, sym, ap}
 use Rattle.std.specs.Option.{unwrap_or}
-use Rattle.std.proofs.lemmas.Bool.Decides.{nat_tests}
 use Rattle.std.proofs.lemmas.List.Elements.{All-nil, All-cons}
 use Rattle.sha2.specs.Sha256.{sha256}
 use Rattle.shelf_terms.specs.Blobs.{Blobs, blob_at}
-use Rattle.code_terms.specs.Words.{readable}
-use Rattle.register_terms.specs.Enrolment.{Enrolment}
-use Rattle.decoder_terms.specs.Decoding.{not_enough}
-use Rattle.desk_terms.specs.Findings.{findings}
-use Rattle.desk_terms.specs.Roll.{roll_of}
-use Rattle.desk_terms.specs.Report.{report_text}
 use Rattle.playlist_terms.specs.Playlists.{Playlist}
 use Rattle.title_terms.specs.Titles.{Title}
 use Rattle.title_terms.proofs.Texts.{read_was_written}
@@ -27,7 +19,7 @@ use Rattle.outcome_terms.specs.TraceCommand.{is_served, segment_names, word_of_c
 use Rattle.outcome_terms.specs.PackagingReports.{HoldsPlaylist}
 use Rattle.outcome_terms.specs.TraceReports.{IsHeld, word_held, IsTraceReport}
 use Rattle.outcome_terms.proofs.Givens.{took, met, was_given, was_held}
-use Rattle.outcome_terms.proofs.Headlines.{register_held, Reported, reported}
+use Rattle.outcome_terms.proofs.Headlines.{register_held, reported}
 use Rattle.outcome_terms.proofs.PackagingHeadlines.{playlist_held, title_held}
 
 -- ---- the digests of the segments

@@ -4,7 +4,7 @@ use Rattle.std.specs.List.{list_any}
 use Rattle.std.specs.Str.{bytes_eq}
 use Rattle.outcome_terms.specs.declared.status.Status.{Status}
 use Rattle.outcome_terms.specs.Statuses.{status_code}
-use Rattle.outcome_terms.specs.Request.{Request, Make, Enrol, Withdraw, MakeTitle, Package, Trace, Check, Accuse}
+use Rattle.outcome_terms.specs.Request.{Request, Make, Enrol, Withdraw, MakeTitle, Package, Trace, Check, Accuse, Sample}
 use Rattle.outcome_terms.specs.Reading.{Reading}
 use Rattle.outcome_terms.specs.Stores.{Writing}
 use Rattle.outcome_terms.specs.RegisterCommand.{make_of, make, make_statuses}
@@ -15,6 +15,7 @@ use Rattle.outcome_terms.specs.PackageCommand.{package_of, package_, package_sta
 use Rattle.outcome_terms.specs.TraceCommand.{trace_of, trace, trace_statuses}
 use Rattle.outcome_terms.specs.CheckCommand.{check_of, check, check_statuses}
 use Rattle.outcome_terms.specs.AccuseCommand.{accuse_of, accuse, accuse_statuses}
+use Rattle.outcome_terms.specs.SampleCommand.{sample_of, sample, sample_statuses}
 
 -- the command that the words are; every other list of words is none
 unfoldable pub request_of : List (List ℕ) → Option Request
@@ -28,7 +29,8 @@ request_of (command ∷ arguments) =
     else (if bytes_eq command (codes "trace") then trace_of arguments
     else (if bytes_eq command (codes "check") then check_of arguments
     else (if bytes_eq command (codes "accuse") then accuse_of arguments
-    else None)))))))
+    else (if bytes_eq command (codes "sample") then sample_of arguments
+    else None))))))))
 
 -- what is to be done
 pub data Deed : Type 0 where
@@ -50,6 +52,7 @@ deed (Some (Package name register licensee out)) = Write out (package_ name regi
 deed (Some (Trace name register copy c)) = Put (trace name register copy c)
 deed (Some (Check name register copy reported)) = Put (check name register copy reported)
 deed (Some (Accuse register word c)) = Put (accuse register word c)
+deed (Some (Sample number)) = Put (sample number)
 
 -- the numbers of the statuses that a command may end with which its words do not refuse
 abbrev pub later_statuses : Option Request → List ℕ
@@ -62,6 +65,7 @@ later_statuses (Some (Package name register licensee out)) = package_statuses
 later_statuses (Some (Trace name register copy c)) = trace_statuses
 later_statuses (Some (Check name register copy reported)) = check_statuses
 later_statuses (Some (Accuse register word c)) = accuse_statuses
+later_statuses (Some (Sample number)) = sample_statuses
 
 abbrev pub may_end : List ℕ → Status → Bool
 may_end numbers s = list_any (λ n. n == status_code s) numbers

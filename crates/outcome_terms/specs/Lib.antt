@@ -9,6 +9,7 @@ pub mod RegisterCommand
 pub mod EnrolCommand
 pub mod WithdrawCommand
 pub mod AccuseCommand
+pub mod SampleCommand
 pub mod Along
 pub mod TitleCommand
 pub mod PackageCommand

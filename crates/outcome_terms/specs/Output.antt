@@ -1,5 +1,5 @@
 -- What stands in the output after an answer. This project's own.
-use Rattle.std.specs.Prelude.{◌≡◌, ◌≢◌, ℕ, List, ◌++◌, Option, Some, None, Result, Ok, Err, codes, ⊤, ◌⊎◌}
+use Rattle.std.specs.Prelude.{◌≡◌, ◌≢◌, ℕ, List, ◌++◌, Option, Some, None, Result, Ok, Err, codes, ◌⊎◌}
 use Rattle.shelf_terms.specs.Counts.{Rose}
 use Rattle.shelf_terms.specs.Puts.{Puts}
 use Rattle.shelf_terms.specs.Told.{WhereTold}

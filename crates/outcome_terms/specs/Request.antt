@@ -18,3 +18,5 @@ pub data Request : Type 0 where
   Check : (title register copy report : List ℕ) → Request
   -- report who agrees with the word, for coalitions of at most c
   Accuse : (register word : List ℕ) (c : ℕ) → Request
+  -- make the sample of the number, and say whom the desk accuses in it
+  Sample : (number : ℕ) → Request

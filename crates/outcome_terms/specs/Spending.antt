@@ -2,17 +2,19 @@
 use Rattle.std.specs.Prelude.{◌≡◌, ℕ, Option, Some, None, Result, Ok, Err, ⊤}
 use Rattle.shelf_terms.specs.Blobs.{Blobs}
 use Rattle.outcome_terms.specs.declared.refusal.Refusal.{Refusal}
-use Rattle.outcome_terms.specs.Reading.{Reading, given}
-use Rattle.outcome_terms.specs.Request.{Request, Trace as Traces, Accuse}
+use Rattle.outcome_terms.specs.Reading.{Reading, Give, given}
+use Rattle.outcome_terms.specs.Request.{Request, Trace as Traces, Accuse, Sample}
 use Rattle.outcome_terms.specs.Stores.{Store, Follows}
 use Rattle.outcome_terms.specs.Traces.{Trace, Counted, IsWithin}
 use Rattle.outcome_terms.specs.AccuseCommand.{accuse_trace}
 use Rattle.outcome_terms.specs.TraceCommand.{trace_trace}
+use Rattle.outcome_terms.specs.SampleCommand.{sample_trace}
 
 -- the trace that a command makes; one line a command that traces
 abbrev pub trace_made : Option Request → Option (Reading Trace)
 trace_made (Some (Traces title register copy c)) = Some (trace_trace title register copy c)
 trace_made (Some (Accuse register word c)) = Some (accuse_trace register word c)
+trace_made (Some (Sample number)) = Some (Give sample_trace)
 trace_made request = None
 
 -- Over every store: nothing is taken, or what one trace may take, where its register and word were read.

@@ -1,5 +1,5 @@
 -- How a reading is answered over a store that may fail at any call, and what a write leaves. This project's own.
-use Rattle.std.specs.Prelude.{◌≡◌, ℕ, ◌≤◌, List, Option, Some, None, Result, Ok, Err, IfSome, IfErr, ⊤}
+use Rattle.std.specs.Prelude.{◌≡◌, ℕ, ◌≤◌, List, Option, Result, Ok, Err, IfSome, IfErr, ⊤}
 use Rattle.std.specs.FinMap.{insert}
 use Rattle.shelf_terms.specs.Blobs.{Blobs, SameBut}
 use Rattle.shelf_terms.specs.Counts.{Rose, Tally}

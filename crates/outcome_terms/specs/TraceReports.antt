@@ -1,5 +1,5 @@
 -- What a done `trace` says, from the bytes read to the bytes put out. This project's own.
-use Rattle.std.specs.Prelude.{◌≡◌, ℕ, ◌<◌, List, ◌++◌, true, Option, Some, None, All, ⊤}
+use Rattle.std.specs.Prelude.{◌≡◌, ℕ, ◌<◌, List, true, Option, Some, All}
 use Rattle.shelf_terms.specs.Blobs.{Blobs, blob_at}
 use Rattle.code_terms.specs.Words.{readable}
 use Rattle.register_terms.specs.Enrolment.{Enrolment}

@@ -14,7 +14,7 @@ ghost use Rattle.outcome_terms.specs.declared.status.Status.TheVariants as statu
 ghost use Rattle.outcome_terms.specs.Statuses.{fault_line, says};
 ghost use Rattle.outcome_terms.specs.declared.refusal.Refusal.{Refusal};
 ghost use Rattle.outcome_terms.specs.Commands.{request_of};
-ghost use Rattle.outcome_terms.specs.Request.{Accuse, Check, Enrol, Make, MakeTitle, Package, Trace, Withdraw};
+ghost use Rattle.outcome_terms.specs.Request.{Accuse, Check, Enrol, Make, MakeTitle, Package, Sample, Trace, Withdraw};
 ghost use Rattle.outcome_terms.specs.Reading.{Reading, given, ◌>>=◌ as ◌and_then◌};
 ghost use Rattle.outcome_terms.specs.Stores.{Answers, Follows, Store};
 
@@ -35,8 +35,8 @@ pub fn readings_compose()
         → s.told ≡ Some blobs → Follows reading s t answer → Answers answer (given blobs reading) }
 {}
 
-/// Words that are commands, and words that are none: too few, too many, a number with a leading zero or a sign, a name with a
-/// line feed, an unknown command, and no word at all.
+/// Words that are commands, and words that are none: too few, too many, a number with a leading zero, a sign or nine bytes, a name
+/// with a line feed, an unknown command, and no word at all.
 pub fn worked_examples()
     ensures make { request_of
         (codes "register" ∷ codes "4" ∷ codes "2" ∷ codes "1" ∷ codes "0" ∷ codes "r" ∷ [])
@@ -58,6 +58,9 @@ pub fn worked_examples()
         ≡ Some (Check (codes "t") (codes "reg") (codes "copy") (codes "rep")) }
     ensures accuse { request_of (codes "accuse" ∷ codes "reg" ∷ codes "w" ∷ codes "3" ∷ [])
         ≡ Some (Accuse (codes "reg") (codes "w") 3) }
+    ensures sample { request_of (codes "sample" ∷ codes "18446744073709551615" ∷ [])
+        ≡ Some (Sample 18446744073709551615) }
+    ensures too_large { request_of (codes "sample" ∷ codes "18446744073709551616" ∷ []) ≡ None }
     ensures too_few { request_of (codes "accuse" ∷ codes "reg" ∷ codes "w" ∷ []) ≡ None }
     ensures too_many { request_of
         (codes "enrol" ∷ codes "r0" ∷ codes "lic0" ∷ codes "r1" ∷ codes "r2" ∷ []) ≡ None }

@@ -1,15 +1,16 @@
 -- How many products a trace takes whose curve is built point by point.
-use Rattle.std.proofs.Common.{◌≡◌, ℕ, ◌≤◌, List, length, Option, Some, None, IfSome, Result, Ok, Err, refl, sym, subst}
+use Rattle.std.proofs.Common.{◌≡◌, ℕ, ◌≤◌, List, length, Option, Some, None, IfSome, Result, Ok, Err, refl, sym, subst, arith}
 use Rattle.shelf_terms.specs.Blobs.{Blobs}
 use Rattle.code_terms.specs.Words.{readable}
 use Rattle.code_terms.proofs.PlaceLaws.{readable-few}
 use Rattle.gs_params.specs.declared.parameters.Params.{Params}
 use Rattle.trace_desk.proofs.CurveCosts.{iterative_cost}
 use Rattle.outcome_terms.specs.declared.refusal.Refusal.{Refusal}
-use Rattle.outcome_terms.specs.Request.{Request, Trace as Traces, Accuse}
-use Rattle.outcome_terms.specs.Reading.{given}
+use Rattle.outcome_terms.specs.Request.{Request, Trace as Traces, Accuse, Sample}
+use Rattle.outcome_terms.specs.Reading.{Give, given}
 use Rattle.outcome_terms.specs.Registers.{register_under}
 use Rattle.outcome_terms.specs.AccuseCommand.{allowed, word_under, accuse_trace}
+use Rattle.outcome_terms.specs.SampleCommand.{sample_trace}
 use Rattle.outcome_terms.specs.Traces.{Trace, Counted, IsWithin, trace_at}
 use Rattle.outcome_terms.specs.Spending.{TakesGiven, TakesAtMost, trace_made}
 use Rattle.outcome_terms.specs.PackageCommand.{title_under, mismatch}
@@ -39,6 +40,10 @@ few_shown blobs title register copy c trace is =
     let word = took blobs (word_shown t.value copy) _ trace served.then in
     subst (λ (t : Trace). t.readable ≤ t.places) (was_given blobs (trace_at e.value.dimension word.value c) trace word.then) (readable-few word.value)
 
+-- and of a sample's
+few_sampled : (blobs : Blobs) (trace : Trace) → given blobs (Give sample_trace) ≡ Ok trace → trace.readable ≤ trace.places
+few_sampled blobs trace is = subst (λ (t : Trace). t.readable ≤ t.places) (was_given blobs sample_trace trace is) (omega arith)
+
 module _ (cost : Params → ℕ) (built : IsBuilt cost) where
   within_built : (trace : Trace) (old new : Counted) → trace.readable ≤ trace.places → IsWithin (curve_costs cost) trace old new → IsWithin built_costs trace old new
   within_built trace old new few within = record {
@@ -55,6 +60,7 @@ module _ (cost : Params → ℕ) (built : IsBuilt cost) where
       given_built (given blobs (trace_trace title register copy c)) old new (λ trace is. few_shown blobs title register copy c trace is) taken
   takes_built (Some (Accuse register word c)) blobs old new taken =
       given_built (given blobs (accuse_trace register word c)) old new (λ trace is. few_readable blobs register word c trace is) taken
+  takes_built (Some (Sample number)) blobs old new taken = given_built (given blobs (Give sample_trace)) old new (λ trace is. few_sampled blobs trace is) taken
   takes_built _ blobs old new taken = tt
 
 pub where_told : {X : Type 0} (o : Option X) (P Q : X → Type 0) → ((x : X) → P x → Q x) → IfSome o P → IfSome o Q

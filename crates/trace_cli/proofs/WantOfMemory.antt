@@ -4,7 +4,7 @@ use Rattle.std.specs.Option.{IfSome}
 use Rattle.outcome_terms.specs.declared.status.Status.TheVariants as status
 use Rattle.outcome_terms.specs.declared.refusal.Refusal.{Refusal}
 use Rattle.outcome_terms.specs.Statuses.{refusal_status}
-use Rattle.outcome_terms.specs.Request.{Request, Make, Enrol, Withdraw, MakeTitle, Package, Trace, Check, Accuse}
+use Rattle.outcome_terms.specs.Request.{Request, Make, Enrol, Withdraw, MakeTitle, Package, Trace, Check, Accuse, Sample}
 use Rattle.outcome_terms.specs.Commands.{deed, may_end, request_of, later_statuses}
 use Rattle.outcome_terms.specs.Outcome.{refused_by_words}
 use Rattle.outcome_terms.specs.Call.{row_behind, row}
@@ -24,6 +24,7 @@ memory_row (Some (Package title register name out)) = behind (refused_by_words (
 memory_row (Some (Trace title register copy c)) = behind (refused_by_words (deed (Some (Trace title register copy c)))) (later_statuses (Some (Trace title register copy c))) refl
 memory_row (Some (Check title register copy report)) = behind (refused_by_words (deed (Some (Check title register copy report)))) (later_statuses (Some (Check title register copy report))) refl
 memory_row (Some (Accuse register word c)) = behind (refused_by_words (deed (Some (Accuse register word c)))) (later_statuses (Some (Accuse register word c))) refl
+memory_row (Some (Sample number)) = behind (refused_by_words (deed (Some (Sample number)))) (later_statuses (Some (Sample number))) refl
 
 in_place : (o : Option Refusal) → IfSome o (λ e. (status.Memory ≡ refusal_status e) ⊎ (status.Memory ≡ status.Memory))
 in_place None = tt

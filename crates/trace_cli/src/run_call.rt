@@ -21,6 +21,7 @@ use copy_commands::trace;
 use gs_params::Interpolate;
 use outcome_terms::Refusal;
 use register_commands::{enrolled_text, register_text, withdrawn_text};
+use sample_commands::sample_text;
 use shelf_io::{Shelf, Sink};
 use std::alloc::Global;
 use steps::{Ledger, Steps};
@@ -188,6 +189,10 @@ fn perform<S: Shelf, I: Interpolate, P: Ledger, Q: Ledger>(
         }
         Command::Accuse { reg, word, c } => {
             let text = accuse(alloc, shelf, reg, word, c, by, prods, looks)?;
+            Ok(Done::Text(text))
+        }
+        Command::Sample { number } => {
+            let text = sample_text(alloc, number, by, prods, looks)?;
             Ok(Done::Text(text))
         }
     }

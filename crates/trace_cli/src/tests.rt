@@ -9,4 +9,5 @@ mod distributed;
 mod films;
 mod packaging;
 mod registers;
+mod samples;
 mod usage;

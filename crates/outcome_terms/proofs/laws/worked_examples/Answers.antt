@@ -8,6 +8,7 @@ use Rattle.outcome_terms.specs.PackageCommand.{package_of}
 use Rattle.outcome_terms.specs.TraceCommand.{trace_of}
 use Rattle.outcome_terms.specs.CheckCommand.{check_of}
 use Rattle.outcome_terms.specs.AccuseCommand.{accuse_of}
+use Rattle.outcome_terms.specs.SampleCommand.{sample_of}
 use Rattle.outcome_terms.proofs.laws.worked_examples.Goals as goal
 
 pub returns-clause-make : goal.returns-clause-make
@@ -41,6 +42,14 @@ returns-clause-check c = refl
 pub returns-clause-accuse : goal.returns-clause-accuse
 unfolding request_of make_of make_from enrol_of withdraw_of make_title_of package_of trace_of check_of accuse_of
 returns-clause-accuse c = refl
+
+pub returns-clause-sample : goal.returns-clause-sample
+unfolding request_of sample_of
+returns-clause-sample c = refl
+
+pub returns-clause-too_large : goal.returns-clause-too_large
+unfolding request_of sample_of
+returns-clause-too_large c = refl
 
 pub returns-clause-too_few : goal.returns-clause-too_few
 unfolding request_of make_of make_from enrol_of withdraw_of make_title_of package_of trace_of check_of accuse_of

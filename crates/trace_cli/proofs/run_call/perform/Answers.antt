@@ -1,12 +1,13 @@
 use Rattle.std.proofs.Common.{◌≡◌, ◌∙◌, Option, Some, Ok, map, refl, sym, ap, subst}
 use Rattle.std.specs.String.{string_bytes}
 use Rattle.cli_words.specs.Requests.{request}
-use Rattle.outcome_terms.specs.Request.{Request, Make, Trace, Accuse}
+use Rattle.outcome_terms.specs.Request.{Request, Make, Trace, Accuse, Sample}
 use Rattle.outcome_terms.specs.RegisterCommand.{make}
-use Rattle.outcome_terms.specs.Stores.{Exactly, store}
+use Rattle.outcome_terms.specs.SampleCommand.{sample}
+use Rattle.outcome_terms.specs.Stores.{Exactly, gave, store}
 use Rattle.outcome_terms.specs.Commands.{deed, request_of}
-use Rattle.outcome_terms.specs.Outcome.{Performs}
-use Rattle.outcome_terms.specs.Spending.{SpendsAtMost, trace_made}
+use Rattle.outcome_terms.specs.Outcome.{Performs, made}
+use Rattle.outcome_terms.specs.Spending.{SpendsAtMost, trace_made, traced}
 use Rattle.trace_commands.specs.Costs.{curve_costs}
 use Rattle.outcome_terms.proofs.Readings.{settled}
 use Rattle.command_io.specs.Answers.{left_text}
@@ -54,3 +55,23 @@ returns-in_ok-text-in-Trace-clause-steps g c =
     ap (λ command. Some (request command)) (sym c.in-Trace.is) ∙ c.in-Some.ensures.asked in
     subst (λ (asked : Option Request). SpendsAtMost (curve_costs g.I.Interpolate.cost) (trace_made asked) (store g.S.Shelf.holds g.S.Shelf.counts c.args.shelf.now)
     (record { products = c.args.prods.now; looks = c.args.looks.now }) (record { products = c.trace.new.prods; looks = c.trace.new.looks })) asked c.trace.ensures.steps
+
+pub returns-in_ok-text-in-Sample : goal.returns-in_ok-text-in-Sample
+returns-in_ok-text-in-Sample g c =
+    let s = store g.S.Shelf.holds g.S.Shelf.counts c.args.shelf.now in
+    let asked : Some (Sample c.in-Sample.number) ≡ request_of (map string_bytes c.args.words.now) =
+    ap (λ command. Some (request command)) (sym c.in-Sample.is) ∙ c.in-Some.ensures.asked in
+    record {
+      performs = subst (λ (asked : Option Request). Performs (deed asked) s s (Ok (Some c.in_ok-text-in-Sample.text.items))) asked
+          (made (settled (sample c.in-Sample.number) s (Ok c.in_ok-text-in-Sample.text.items) c.in_ok-text-in-Sample.ensures.summary));
+      steps = subst (λ (asked : Option Request). SpendsAtMost (curve_costs g.I.Interpolate.cost) (trace_made asked) s (record { products = c.args.prods.now; looks = c.args.looks.now })
+          (record { products = c.sample_text.new.prods; looks = c.sample_text.new.looks })) asked (traced gave c.sample_text.ensures.steps);
+    }
+
+pub returns-in_err-text-in-Sample-clause-steps : goal.returns-in_err-text-in-Sample-clause-steps
+returns-in_err-text-in-Sample-clause-steps g c =
+    let s = store g.S.Shelf.holds g.S.Shelf.counts c.args.shelf.now in
+    let asked : Some (Sample c.in-Sample.number) ≡ request_of (map string_bytes c.args.words.now) =
+    ap (λ command. Some (request command)) (sym c.in-Sample.is) ∙ c.in-Some.ensures.asked in
+    subst (λ (asked : Option Request). SpendsAtMost (curve_costs g.I.Interpolate.cost) (trace_made asked) s (record { products = c.args.prods.now; looks = c.args.looks.now })
+    (record { products = c.sample_text.new.prods; looks = c.sample_text.new.looks })) asked (traced gave c.sample_text.ensures.steps)

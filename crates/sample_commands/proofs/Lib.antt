@@ -1,0 +1,3 @@
+mod Registers
+pub mod Summaries
+pub mod Samples
