@@ -17,7 +17,7 @@ pub(crate) const PLACES: usize = 256;
 /// Sixteen rows for each of 26 digits, since a message has at most 104 bits.
 const ROWS: usize = 416;
 
-/// The symbols at all places of each message with one digit. Row 16 q + d is that of digit d with q zeros behind it.
+/// The symbols at all places of each message with one digit. The one of digit d with q zeros behind it stands at 16 q + d.
 #[derive(Drop)]
 pub(crate) struct Rows {
     pub(crate) digits: u32,

@@ -1,9 +1,10 @@
 //! `accuse`: reports, bounds, words and failures outside.
 
-use super::calls::{answer, call, call_into, register, shelf};
+use super::calls::{answer, put_fails, register, same, says, shelf};
 use lists::Memory;
-use shelf_io::MemSink;
+use shelf_io::MemShelf;
 use std::alloc::Global;
+use std::process::Abort;
 use std::test::Fail;
 
 /// Words over GF(16) against twenty licensees, k = 2: a word, a bound and what is put out.
@@ -49,13 +50,26 @@ const SMALL: [(&str, &str, &str); 10] = [
     ("5,5", "accuse reg w 03", "2: error 2 words\n"),
 ];
 
+/// Makes this call over a register and a word, and compares what it puts out.
+fn answers(
+    rt: &impl Abort,
+    alloc: Global,
+    register: &str,
+    word: &str,
+    line: &str,
+    wanted: &str,
+) -> Result<(), Memory> {
+    let got = answer(alloc, register, word, line)?;
+    same(rt, got.as_str(), wanted, word);
+    Ok(())
+}
+
 #[test]
 fn small_words(rt: HostRuntime) -> Result<(), Fail> {
     let alloc = rt.alloc();
     let twenty = register(alloc, 4, 2, 20)?;
     for (word, line, wanted) in SMALL {
-        let got = answer(alloc, twenty.as_str(), word, line)?;
-        assert_eq!(rt; got.as_str(), wanted, "at {word}");
+        answers(&rt, alloc, twenty.as_str(), word, line, wanted)?;
     }
     Ok(())
 }
@@ -80,8 +94,7 @@ fn nobody_else_and_nothing_there(rt: HostRuntime) -> Result<(), Fail> {
     let alloc = rt.alloc();
     let five = register(alloc, 4, 2, 5)?;
     for (line, wanted) in FIVE {
-        let got = answer(alloc, five.as_str(), "5,5", line)?;
-        assert_eq!(rt; got.as_str(), wanted, "at {line}");
+        answers(&rt, alloc, five.as_str(), "5,5", line, wanted)?;
     }
     Ok(())
 }
@@ -150,9 +163,15 @@ fn two_hundred_places(rt: HostRuntime) -> Result<(), Fail> {
     let alloc = rt.alloc();
     let many = register(alloc, 8, 5, 400)?;
     let word = word_shown(alloc)?;
-    let got = answer(alloc, many.as_str(), word.as_str(), "accuse reg w 3")?;
     let wanted = three_accused(alloc)?;
-    assert_eq!(rt; got.as_str(), wanted.as_str());
+    answers(
+        &rt,
+        alloc,
+        many.as_str(),
+        word.as_str(),
+        "accuse reg w 3",
+        wanted.as_str(),
+    )?;
     Ok(())
 }
 
@@ -183,9 +202,15 @@ fn five_thousand_licensees(rt: HostRuntime) -> Result<(), Fail> {
     let alloc = rt.alloc();
     let many = register(alloc, 8, 2, 5000)?;
     let word = all_zero(alloc)?;
-    let got = answer(alloc, many.as_str(), word.as_str(), "accuse reg w 3")?;
     let wanted = whole_copy(alloc)?;
-    assert_eq!(rt; got.as_str(), wanted.as_str());
+    answers(
+        &rt,
+        alloc,
+        many.as_str(),
+        word.as_str(),
+        "accuse reg w 3",
+        wanted.as_str(),
+    )?;
     Ok(())
 }
 
@@ -201,11 +226,11 @@ const FAILING_CALLS: [(u64, &str); 5] = [
     ),
 ];
 
-/// What is put out where the call of this number fails.
-fn call_fails(alloc: Global, register: &str, number: u64) -> Result<String, Memory> {
+/// A shelf with this register and the word `5,5`, whose call of this number fails.
+fn failing(alloc: Global, register: &str, number: u64) -> Result<MemShelf, Memory> {
     let mut shelf = shelf(alloc, register, "5,5")?;
     shelf.fail(number)?;
-    call(alloc, &mut shelf, "accuse reg w 1")
+    Ok(shelf)
 }
 
 #[test]
@@ -213,8 +238,8 @@ fn failures_of_the_shelf(rt: HostRuntime) -> Result<(), Fail> {
     let alloc = rt.alloc();
     let twenty = register(alloc, 4, 2, 20)?;
     for (number, wanted) in FAILING_CALLS {
-        let got = call_fails(alloc, twenty.as_str(), number)?;
-        assert_eq!(rt; got.as_str(), wanted, "at call {number}");
+        let mut shelf = failing(alloc, twenty.as_str(), number)?;
+        says(&rt, alloc, &mut shelf, "accuse reg w 1", wanted)?;
     }
     Ok(())
 }
@@ -228,21 +253,13 @@ const FAILING_PUTS: [(&str, &str); 2] = [
     ("0,1,2,3,0,0,0,1,1,-", "15: error "),
 ];
 
-/// What is put out where the output's first put fails.
-fn first_put_fails(alloc: Global, register: &str, word: &str) -> Result<String, Memory> {
-    let mut shelf = shelf(alloc, register, word)?;
-    let mut out = MemSink::new(alloc);
-    out.fail(1)?;
-    call_into(alloc, &mut shelf, &mut out, "accuse reg w 3")
-}
-
 #[test]
 fn failures_of_the_output(rt: HostRuntime) -> Result<(), Fail> {
     let alloc = rt.alloc();
     let twenty = register(alloc, 4, 2, 20)?;
     for (word, wanted) in FAILING_PUTS {
-        let got = first_put_fails(alloc, twenty.as_str(), word)?;
-        assert_eq!(rt; got.as_str(), wanted, "at {word}");
+        let mut shelf = shelf(alloc, twenty.as_str(), word)?;
+        put_fails(&rt, alloc, &mut shelf, "accuse reg w 3", wanted)?;
     }
     Ok(())
 }
@@ -252,15 +269,9 @@ fn failures_of_the_output(rt: HostRuntime) -> Result<(), Fail> {
 fn nineteen_places(rt: HostRuntime) -> Result<(), Fail> {
     let alloc = rt.alloc();
     let twenty = register(alloc, 5, 3, 20)?;
-    let got = answer(
-        alloc,
-        twenty.as_str(),
-        "0,0,0,0,0,0,0,0,0,0,0,0,0,0,0,0,0,0,0",
-        "accuse reg w 3",
-    )?;
-    assert_eq!(rt;
-        got.as_str(),
-        "0: {\"accused\":[{\"name\":\"lic0\",\"places\":[0,1,2,3,4,5,6,7,8,9,10,11,12,13,14,15,16,17,18],\"serial\":0}],\"bound\":3,\"readable\":19}\n"
-    );
+    let word = "0,0,0,0,0,0,0,0,0,0,0,0,0,0,0,0,0,0,0";
+    let wanted =
+        "0: {\"accused\":[{\"name\":\"lic0\",\"places\":[0,1,2,3,4,5,6,7,8,9,10,11,12,13,14,15,16,17,18],\"serial\":0}],\"bound\":3,\"readable\":19}\n";
+    answers(&rt, alloc, twenty.as_str(), word, "accuse reg w 3", wanted)?;
     Ok(())
 }

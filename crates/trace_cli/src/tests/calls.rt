@@ -10,6 +10,7 @@ use lists::Memory;
 use shelf_io::{MemShelf, MemSink, Shelf};
 use std::alloc::Global;
 use std::marker::Brand;
+use std::process::Abort;
 use std::sync::ledger::Blank;
 use steps::{Ledger, Steps};
 use texts::is_name;
@@ -118,4 +119,78 @@ pub fn held(alloc: Global, shelf: &mut MemShelf, name: &str) -> Result<String, M
     };
     let text = std::str::from_utf8(part.as_slice()).unwrap_or("no text");
     Ok(format!(in alloc; "held: {text}")?)
+}
+
+/// Ends the test where these texts differ, which were had at this place.
+pub fn same(rt: &impl Abort, got: &str, wanted: &str, place: &str) {
+    assert_eq!(rt; got, wanted, "at {place}");
+}
+
+/// Makes this call, and compares what it puts out.
+pub fn says(
+    rt: &impl Abort,
+    alloc: Global,
+    shelf: &mut MemShelf,
+    line: &str,
+    wanted: &str,
+) -> Result<(), Memory> {
+    let got = call(alloc, shelf, line)?;
+    same(rt, got.as_str(), wanted, line);
+    Ok(())
+}
+
+/// Makes one call after another, and compares what each puts out.
+pub fn each_says(
+    rt: &impl Abort,
+    alloc: Global,
+    shelf: &mut MemShelf,
+    calls: &[(&str, &str)],
+) -> Result<(), Memory> {
+    for one in calls {
+        let (line, wanted) = *one;
+        says(rt, alloc, shelf, line, wanted)?;
+    }
+    Ok(())
+}
+
+/// Compares what the shelf has under a name.
+pub fn holds(
+    rt: &impl Abort,
+    alloc: Global,
+    shelf: &mut MemShelf,
+    name: &str,
+    wanted: &str,
+) -> Result<(), Memory> {
+    let got = held(alloc, shelf, name)?;
+    same(rt, got.as_str(), wanted, name);
+    Ok(())
+}
+
+/// The same with the iterative way to find curves.
+pub fn says_by_steps(
+    rt: &impl Abort,
+    alloc: Global,
+    shelf: &mut MemShelf,
+    line: &str,
+    wanted: &str,
+) -> Result<(), Memory> {
+    let mut out = MemSink::new(alloc);
+    let got = call_with(alloc, shelf, &mut out, line, &Koetter)?;
+    same(rt, got.as_str(), wanted, line);
+    Ok(())
+}
+
+/// Makes this call with an output whose first put fails, and compares what stands there.
+pub fn put_fails(
+    rt: &impl Abort,
+    alloc: Global,
+    shelf: &mut MemShelf,
+    line: &str,
+    wanted: &str,
+) -> Result<(), Memory> {
+    let mut out = MemSink::new(alloc);
+    out.fail(1)?;
+    let got = call_into(alloc, shelf, &mut out, line)?;
+    same(rt, got.as_str(), wanted, line);
+    Ok(())
 }

@@ -1,9 +1,9 @@
 //! `check`: right reports, each thing that may be wrong with one, and failures outside.
 
-use super::calls::{call, call_into};
+use super::calls::{each_says, put_fails, says};
 use super::films::{FILM_COPY, THREE_COLLUDERS, playlist, titled_film};
 use lists::Memory;
-use shelf_io::{MemShelf, MemSink};
+use shelf_io::MemShelf;
 use std::alloc::Global;
 use std::test::Fail;
 
@@ -92,11 +92,23 @@ fn reports_are_judged(rt: HostRuntime) -> Result<(), Fail> {
     let mut shelf = titled_film(alloc)?;
     for (report, wanted) in REPORTS {
         shelf.hold("rep", report.as_bytes())?;
-        let got = call(alloc, &mut shelf, "check film.title reg copy rep")?;
-        assert_eq!(rt; got.as_str(), wanted, "at {report}");
+        says(
+            &rt,
+            alloc,
+            &mut shelf,
+            "check film.title reg copy rep",
+            wanted,
+        )?;
     }
     Ok(())
 }
+
+/// Where what `trace` puts out ends, and how it is judged.
+const ENDS: [(usize, &str); 3] = [
+    (178, "0: right\n"),
+    (177, "0: right\n"),
+    (176, "12: error 12 report\n"),
+];
 
 /// What `trace` puts out is right, also without its line feed, and is no report before its last brace.
 #[test]
@@ -104,15 +116,15 @@ fn what_trace_puts_out_is_right(rt: HostRuntime) -> Result<(), Fail> {
     let alloc = rt.alloc();
     let report = right_report();
     assert_eq!(rt; report.len(), 178);
-    let ends = [
-        (178, "0: right\n"),
-        (177, "0: right\n"),
-        (176, "12: error 12 report\n"),
-    ];
-    for (end, wanted) in ends {
+    for (end, wanted) in ENDS {
         let mut shelf = reported(alloc, report.get(..end).unwrap_or(""))?;
-        let got = call(alloc, &mut shelf, "check film.title reg copy rep")?;
-        assert_eq!(rt; got.as_str(), wanted, "up to {end}");
+        says(
+            &rt,
+            alloc,
+            &mut shelf,
+            "check film.title reg copy rep",
+            wanted,
+        )?;
     }
     Ok(())
 }
@@ -149,10 +161,7 @@ fn checks_are_refused(rt: HostRuntime) -> Result<(), Fail> {
     shelf.hold("wide", b"register 1\nm 4\nk 3\na 1\nb 0\nlic0\n")?;
     let short = playlist(alloc, &SHORT_COPY)?;
     shelf.hold("short", short.as_bytes())?;
-    for (line, wanted) in CALLS {
-        let got = call(alloc, &mut shelf, line)?;
-        assert_eq!(rt; got.as_str(), wanted, "at {line}");
-    }
+    each_says(&rt, alloc, &mut shelf, &CALLS)?;
     Ok(())
 }
 
@@ -179,8 +188,13 @@ fn each_call_of_check_fails(rt: HostRuntime) -> Result<(), Fail> {
         shelf.fail(326 + number as u64)?;
         let name = name_read(number);
         let wanted = format!(in alloc; "4: error 4 {name}\n")?;
-        let got = call(alloc, &mut shelf, "check film.title reg copy rep")?;
-        assert_eq!(rt; got.as_str(), wanted.as_str(), "at call {number}");
+        says(
+            &rt,
+            alloc,
+            &mut shelf,
+            "check film.title reg copy rep",
+            wanted.as_str(),
+        )?;
     }
     Ok(())
 }
@@ -190,9 +204,12 @@ fn each_call_of_check_fails(rt: HostRuntime) -> Result<(), Fail> {
 fn the_put_of_right_fails(rt: HostRuntime) -> Result<(), Fail> {
     let alloc = rt.alloc();
     let mut shelf = reported(alloc, right_report())?;
-    let mut out = MemSink::new(alloc);
-    out.fail(1)?;
-    let got = call_into(alloc, &mut shelf, &mut out, "check film.title reg copy rep")?;
-    assert_eq!(rt; got.as_str(), "6: rig");
+    put_fails(
+        &rt,
+        alloc,
+        &mut shelf,
+        "check film.title reg copy rep",
+        "6: rig",
+    )?;
     Ok(())
 }

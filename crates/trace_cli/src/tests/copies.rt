@@ -1,27 +1,27 @@
 //! `trace`: words of copies, failures outside, and a film as it is handed out.
 
-use super::calls::{call, call_into, call_with, held, register};
+use super::calls::{each_says, held, put_fails, says, says_by_steps};
 use super::films::{
     FILM_COPY, PAIR_SOURCE, THREE_COLLUDERS, hold_itself, playlist, titled_film, titled_pair,
-    variant,
 };
-use gs_koetter::Koetter;
 use lists::Memory;
-use shelf_io::{MemShelf, MemSink};
+use shelf_io::MemShelf;
 use std::alloc::Global;
+use std::process::Abort;
 use std::test::Fail;
 
-/// How `trace` ends on a copy of these segments.
+/// Compares what `trace` puts out on a copy of these segments.
 fn traced(
+    rt: &impl Abort,
     alloc: Global,
     shelf: &mut MemShelf,
     names: &[&str],
     bound: u32,
-) -> Result<String, Memory> {
+    wanted: &str,
+) -> Result<(), Memory> {
     shelf.hold("copy", playlist(alloc, names)?.as_bytes())?;
     let line = format!(in alloc; "trace film.title reg copy {bound}")?;
-    let mut out = MemSink::new(alloc);
-    call_with(alloc, shelf, &mut out, line.as_str(), &Koetter)
+    says_by_steps(rt, alloc, shelf, line.as_str(), wanted)
 }
 
 /// The film's copy with one segment more at its end.
@@ -55,8 +55,7 @@ fn one_segment_more(rt: HostRuntime) -> Result<(), Fail> {
     shelf.hold("v/4-0f.ts", b"v/4-00.ts")?;
     for (name, bound, wanted) in ANOTHER {
         let names = with_another(alloc, name)?;
-        let got = traced(alloc, &mut shelf, names.as_slice(), bound)?;
-        assert_eq!(rt; got.as_str(), wanted, "with {name} at {bound}");
+        traced(&rt, alloc, &mut shelf, names.as_slice(), bound, wanted)?;
     }
     Ok(())
 }
@@ -68,13 +67,11 @@ fn reversed_and_renamed(rt: HostRuntime) -> Result<(), Fail> {
     let mut shelf = titled_film(alloc)?;
     let mut names = Vec::from_slice(alloc, &FILM_COPY)?;
     names.reverse();
-    let reversed = traced(alloc, &mut shelf, names.as_slice(), 3)?;
-    assert_eq!(rt; reversed.as_str(), THREE_COLLUDERS);
+    traced(&rt, alloc, &mut shelf, names.as_slice(), 3, THREE_COLLUDERS)?;
     shelf.hold("found-on-the-net.ts", b"v/9-01.ts")?;
     names.push("found-on-the-net.ts")?;
     let _removed = names.remove(2);
-    let renamed = traced(alloc, &mut shelf, names.as_slice(), 3)?;
-    assert_eq!(rt; renamed.as_str(), THREE_COLLUDERS);
+    traced(&rt, alloc, &mut shelf, names.as_slice(), 3, THREE_COLLUDERS)?;
     Ok(())
 }
 
@@ -100,10 +97,7 @@ fn traces_are_refused(rt: HostRuntime) -> Result<(), Fail> {
     shelf.hold("wide", b"register 1\nm 4\nk 3\na 1\nb 0\nlic0\n")?;
     shelf.hold("bad", b"register 1\nm 9\nk 2\na 1\nb 0\nlic0\n")?;
     shelf.hold("cut", b"title 1\nname film\nm 4\n")?;
-    for (line, wanted) in CALLS {
-        let got = call(alloc, &mut shelf, line)?;
-        assert_eq!(rt; got.as_str(), wanted, "at {line}");
-    }
+    each_says(&rt, alloc, &mut shelf, &CALLS)?;
     Ok(())
 }
 
@@ -129,13 +123,23 @@ fn each_call_of_trace_fails(rt: HostRuntime) -> Result<(), Fail> {
         shelf.fail(326 + number as u64)?;
         let name = name_read(number);
         let wanted = format!(in alloc; "4: error 4 {name}\n")?;
-        let got = call(alloc, &mut shelf, "trace film.title reg copy 3")?;
-        assert_eq!(rt; got.as_str(), wanted.as_str(), "at call {number}");
+        says(
+            &rt,
+            alloc,
+            &mut shelf,
+            "trace film.title reg copy 3",
+            wanted.as_str(),
+        )?;
     }
     let mut shelf = titled_film(alloc)?;
     shelf.fail(356)?;
-    let got = call(alloc, &mut shelf, "trace film.title reg copy 3")?;
-    assert_eq!(rt; got.as_str(), THREE_COLLUDERS);
+    says(
+        &rt,
+        alloc,
+        &mut shelf,
+        "trace film.title reg copy 3",
+        THREE_COLLUDERS,
+    )?;
     Ok(())
 }
 
@@ -154,15 +158,22 @@ fn with_a_long_segment(alloc: Global, fails: bool) -> Result<MemShelf, Memory> {
     Ok(shelf)
 }
 
+/// Whether that part fails, and what is put out.
+const LONG_SEGMENT: [(bool, &str); 2] = [(true, "4: error 4 big.ts\n"), (false, THREE_COLLUDERS)];
+
 #[test]
 fn a_long_segment_is_read_by_parts(rt: HostRuntime) -> Result<(), Fail> {
     let alloc = rt.alloc();
-    let mut shelf = with_a_long_segment(alloc, true)?;
-    let failed = call(alloc, &mut shelf, "trace film.title reg copy 3")?;
-    assert_eq!(rt; failed.as_str(), "4: error 4 big.ts\n");
-    let mut shelf = with_a_long_segment(alloc, false)?;
-    let got = call(alloc, &mut shelf, "trace film.title reg copy 3")?;
-    assert_eq!(rt; got.as_str(), THREE_COLLUDERS);
+    for (fails, wanted) in LONG_SEGMENT {
+        let mut shelf = with_a_long_segment(alloc, fails)?;
+        says(
+            &rt,
+            alloc,
+            &mut shelf,
+            "trace film.title reg copy 3",
+            wanted,
+        )?;
+    }
     Ok(())
 }
 
@@ -171,13 +182,9 @@ fn a_long_segment_is_read_by_parts(rt: HostRuntime) -> Result<(), Fail> {
 fn a_put_fails(rt: HostRuntime) -> Result<(), Fail> {
     let alloc = rt.alloc();
     let mut shelf = titled_film(alloc)?;
-    let mut out = MemSink::new(alloc);
-    out.fail(1)?;
-    let got = call_into(alloc, &mut shelf, &mut out, "trace film.title reg copy 3")?;
     let half =
-        "{\"accused\":[{\"name\":\"lic0\",\"places\":[0,4,5,6],\"serial\":0},{\"name\":\"lic1\",\"places\":[1,7,8,";
-    let wanted = format!(in alloc; "6: {half}")?;
-    assert_eq!(rt; got.as_str(), wanted.as_str());
+        "6: {\"accused\":[{\"name\":\"lic0\",\"places\":[0,4,5,6],\"serial\":0},{\"name\":\"lic1\",\"places\":[1,7,8,";
+    put_fails(&rt, alloc, &mut shelf, "trace film.title reg copy 3", half)?;
     Ok(())
 }
 
@@ -199,8 +206,13 @@ fn damaged_titles(rt: HostRuntime) -> Result<(), Fail> {
         }
         shelf.hold("cut", prefix.as_bytes())?;
         let wanted = format!(in alloc; "10: error 10 {line} form\n")?;
-        let got = call(alloc, &mut shelf, "trace cut reg source 1")?;
-        assert_eq!(rt; got.as_str(), wanted.as_str(), "at {end}");
+        says(
+            &rt,
+            alloc,
+            &mut shelf,
+            "trace cut reg source 1",
+            wanted.as_str(),
+        )?;
     }
     Ok(())
 }
@@ -238,8 +250,7 @@ fn damaged_copies(rt: HostRuntime) -> Result<(), Fail> {
     for (count, wanted) in CUTS {
         let cut = first_lines(alloc, PAIR_SOURCE, count)?;
         shelf.hold("cut", cut.as_bytes())?;
-        let got = call(alloc, &mut shelf, "trace pair.title reg cut 1")?;
-        assert_eq!(rt; got.as_str(), wanted, "after {count} lines");
+        says(&rt, alloc, &mut shelf, "trace pair.title reg cut 1", wanted)?;
     }
     Ok(())
 }

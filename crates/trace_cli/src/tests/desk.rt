@@ -3,7 +3,7 @@
 ghost use Rattle.std.specs.Prelude.{◌≡◌, ◌<◌, IfOk, IfSome, [], ◌∷◌, Some};
 ghost use Rattle.code_terms.specs.Words.{three_colluders};
 
-use super::calls::{call_with, register, shelf};
+use super::calls::{call_with, register, same, shelf};
 use bi_poly::BiPoly;
 use desk_terms::{Accused, Findings};
 use gf2m::{Field, Gf};
@@ -52,9 +52,14 @@ fn without_curves(alloc: Global, word: &str) -> Result<String, Memory> {
 fn no_curve_is_found(rt: HostRuntime) -> Result<(), Fail> {
     let alloc = rt.alloc();
     let enough = without_curves(alloc, "0,1,2,3,0,0,0,1,1,1")?;
-    assert_eq!(rt; enough.as_str(), "1: error 1 memory\n");
+    same(&rt, enough.as_str(), "1: error 1 memory\n", "enough places");
     let too_few = without_curves(alloc, "0,1,2,3,0,0,0,1,1,-")?;
-    assert_eq!(rt; too_few.as_str(), "15: error 15 9 9\n");
+    same(
+        &rt,
+        too_few.as_str(),
+        "15: error 15 9 9\n",
+        "too few places",
+    );
     Ok(())
 }
 
@@ -174,7 +179,12 @@ fn add_accused(text: &mut String, one: &Accused) -> Result<(), Memory> {
 #[test]
 fn a_book_without_a_rule(rt: HostRuntime) -> Result<(), Fail> {
     let got = found_among_three::<Brand, Brand>(rt.alloc(), Blank::new(1), Blank::new(1))?;
-    assert_eq!(rt; got.as_str(), "0 u 0 1 2 3\n2 w 0 4 5 6\n");
+    same(
+        &rt,
+        got.as_str(),
+        "0 u 0 1 2 3\n2 w 0 4 5 6\n",
+        "three entries",
+    );
     Ok(())
 }
 
@@ -236,13 +246,13 @@ fn decodes<P: Ledger>(rt: &impl Abort, alloc: Global, prods: Blank) -> Result<()
 {
     let mut prods = Steps::<P>::new(prods);
     let three = decoded(alloc, Some(1), 3, &mut prods)?;
-    assert_eq!(rt; three.as_str(), "0;1;16;");
+    same(rt, three.as_str(), "0;1;16;", "ten places");
     let too_few = decoded(alloc, None, 3, &mut prods)?;
-    assert_eq!(rt; too_few.as_str(), "too few: 9");
+    same(rt, too_few.as_str(), "too few: 9", "nine places");
     let none = decoded(alloc, None, 2, &mut prods)?;
-    assert_eq!(rt; none.as_str(), "");
+    same(rt, none.as_str(), "", "nine places of two");
     let bad_bound = decoded(alloc, None, 9, &mut prods)?;
-    assert_eq!(rt; bad_bound.as_str(), "bad bound");
+    same(rt, bad_bound.as_str(), "bad bound", "coalitions of nine");
     Ok(())
 }
 

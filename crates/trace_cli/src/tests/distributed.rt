@@ -1,10 +1,9 @@
 //! A film as a distributor has it: 900 segments, 32 of them marked, and the whole copy of one cinema.
 
-use super::calls::{call, call_with, held};
+use super::calls::{each_says, held, same, says_by_steps};
 use super::films::{hold_itself, hold_variants};
-use gs_koetter::Koetter;
 use lists::Memory;
-use shelf_io::{MemShelf, MemSink};
+use shelf_io::MemShelf;
 use std::alloc::Global;
 use std::test::Fail;
 
@@ -57,33 +56,34 @@ fn distributed(alloc: Global) -> Result<MemShelf, Memory> {
     Ok(shelf)
 }
 
+/// The title is made, the last cinema gets its playlist, and is found by it.
+const CALLS: [(&str, &str); 3] = [
+    ("title design source title", "0: "),
+    ("package title reg cinema-007 copy", "0: "),
+    ("trace title reg copy 3", WHOLE_COPY),
+];
+
+/// Lines of the cinema's playlist: the URI of segment `i` stands on line 7 + 2i, counted from 1.
+const LINES: [(usize, &str); 6] = [
+    (3, "#EXT-X-TARGETDURATION:6"),
+    (7, "v/0-15.ts"),
+    (7 + 2 * 28, "v/1-01.ts"),
+    (7 + 2 * 56, "v/2-09.ts"),
+    (1806, "#EXT-X-ENDLIST"),
+    (1807, "none"),
+];
+
 #[test]
 fn a_cinema_gets_its_playlist_and_is_found(rt: HostRuntime) -> Result<(), Fail> {
     let alloc = rt.alloc();
     let mut shelf = distributed(alloc)?;
-    let titled = call(alloc, &mut shelf, "title design source title")?;
-    assert_eq!(rt; titled.as_str(), "0: ");
-    let packaged = call(alloc, &mut shelf, "package title reg cinema-007 copy")?;
-    assert_eq!(rt; packaged.as_str(), "0: ");
+    each_says(&rt, alloc, &mut shelf, &CALLS)?;
+    says_by_steps(&rt, alloc, &mut shelf, "trace title reg copy 3", WHOLE_COPY)?;
     let said = held(alloc, &mut shelf, "copy")?;
     let text = said.as_str().strip_prefix("held: ").unwrap_or("");
-    let lines = text.lines().count();
-    assert_eq!(rt; lines, 1806);
-    assert_eq!(rt; text.lines().nth(2), Some("#EXT-X-TARGETDURATION:6"));
-    // The URI of segment i stands on line 7 + 2i.
-    assert_eq!(rt; text.lines().nth(6), Some("v/0-15.ts"));
-    assert_eq!(rt; text.lines().nth(6 + 2 * 28), Some("v/1-01.ts"));
-    assert_eq!(rt; text.lines().nth(6 + 2 * 56), Some("v/2-09.ts"));
-    let by_algebra = call(alloc, &mut shelf, "trace title reg copy 3")?;
-    assert_eq!(rt; by_algebra.as_str(), WHOLE_COPY);
-    let mut out = MemSink::new(alloc);
-    let found = call_with(
-        alloc,
-        &mut shelf,
-        &mut out,
-        "trace title reg copy 3",
-        &Koetter,
-    )?;
-    assert_eq!(rt; found.as_str(), WHOLE_COPY);
+    for (number, wanted) in LINES {
+        let line = text.lines().nth(number - 1).unwrap_or("none");
+        same(&rt, line, wanted, "a line of the playlist");
+    }
     Ok(())
 }

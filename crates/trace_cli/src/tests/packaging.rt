@@ -1,6 +1,6 @@
 //! `title` and `package`.
 
-use super::calls::{call, held};
+use super::calls::{each_says, held, holds, same, says};
 use super::films::{PAIR_SOURCE, film, film_design, pair, titled_pair, variant};
 use lists::Memory;
 use shelf_io::MemShelf;
@@ -34,68 +34,63 @@ fn licensees_get_their_variants(rt: HostRuntime) -> Result<(), Fail> {
     let mut shelf = pair(alloc)?;
     let source = PAIR_SOURCE.replace(alloc, "\n", "\r\n")?;
     shelf.hold("source", source.as_bytes())?;
-    let made = call(alloc, &mut shelf, "title design source pair.title")?;
-    assert_eq!(rt; made.as_str(), "0: ");
+    says(
+        &rt,
+        alloc,
+        &mut shelf,
+        "title design source pair.title",
+        "0: ",
+    )?;
     for (name, first, last) in LICENSEES {
         let line = format!(in alloc; "package pair.title reg {name} out")?;
-        let got = call(alloc, &mut shelf, line.as_str())?;
-        assert_eq!(rt; got.as_str(), "0: ");
+        says(&rt, alloc, &mut shelf, line.as_str(), "0: ")?;
         let wanted = pair_playlist(alloc, (first, last), "6.000000", "6", "")?;
-        let out = held(alloc, &mut shelf, "out")?;
-        assert_eq!(rt; out.as_str(), wanted.as_str(), "for {name}");
+        holds(&rt, alloc, &mut shelf, "out", wanted.as_str())?;
     }
-    let unknown = call(alloc, &mut shelf, "package pair.title reg nobody out2")?;
-    assert_eq!(rt; unknown.as_str(), "19: error 19 nobody\n");
-    let stays = held(alloc, &mut shelf, "out2")?;
-    assert_eq!(rt; stays.as_str(), "not there");
+    let unknown = "package pair.title reg nobody out2";
+    says(&rt, alloc, &mut shelf, unknown, "19: error 19 nobody\n")?;
+    holds(&rt, alloc, &mut shelf, "out2", "not there")?;
     Ok(())
 }
 
 /// What stands for the second and third duration's lines of the source, and what a licensee then gets: the second duration, the
 /// target and the line before the third.
-const DURATIONS: [(&str, &str, &str, &str, &str); 3] = [
-    (
-        "#EXTINF:5.9999999,\ns1.ts\n",
-        "5.999999",
-        "6",
-        "",
-        "digits past the sixth are dropped",
-    ),
-    (
-        "#EXTINF:7.5,\ns1.ts\n",
-        "7.500000",
-        "8",
-        "",
-        "the target is raised, the half rounded up",
-    ),
+const DURATIONS: [(&str, &str, &str, &str); 3] = [
+    // digits past the sixth are dropped
+    ("#EXTINF:5.9999999,\ns1.ts\n", "5.999999", "6", ""),
+    // the target is raised, the half rounded up
+    ("#EXTINF:7.5,\ns1.ts\n", "7.500000", "8", ""),
+    // a discontinuity stays where it stands
     (
         "#EXTINF:6.000000,\ns1.ts\n#EXT-X-DISCONTINUITY\n",
         "6.000000",
         "6",
         "#EXT-X-DISCONTINUITY\n",
-        "a discontinuity stays where it stands",
     ),
+];
+
+/// The pair's title is made, and a licensee gets a playlist.
+const MADE_AND_PACKAGED: [(&str, &str); 2] = [
+    ("title design source pair.title", "0: "),
+    ("package pair.title reg lic16 out", "0: "),
 ];
 
 #[test]
 fn durations_and_breaks_are_kept(rt: HostRuntime) -> Result<(), Fail> {
     let alloc = rt.alloc();
-    for (lines, second, target, third, what) in DURATIONS {
+    for (lines, second, target, third) in DURATIONS {
         let mut shelf = pair(alloc)?;
         let source = PAIR_SOURCE.replace(alloc, "#EXTINF:6.000000,\ns1.ts\n", lines)?;
         shelf.hold("source", source.as_bytes())?;
-        let _made = call(alloc, &mut shelf, "title design source pair.title")?;
-        let got = call(alloc, &mut shelf, "package pair.title reg lic16 out")?;
-        assert_eq!(rt; got.as_str(), "0: ");
+        each_says(&rt, alloc, &mut shelf, &MADE_AND_PACKAGED)?;
         let wanted = pair_playlist(alloc, ("v/0-00.ts", "v/1-01.ts"), second, target, third)?;
-        let out = held(alloc, &mut shelf, "out")?;
-        assert_eq!(rt; out.as_str(), wanted.as_str(), "{what}");
+        holds(&rt, alloc, &mut shelf, "out", wanted.as_str())?;
     }
     Ok(())
 }
 
 /// Lines of the pair's title: their numbers, counted from 1, and what they say.
-const TITLE_LINES: [(usize, &str); 8] = [
+const TITLE_LINES: [(usize, &str); 10] = [
     (1, "title 1"),
     (2, "name pair"),
     (11, "segments 3"),
@@ -108,6 +103,12 @@ const TITLE_LINES: [(usize, &str); 8] = [
         18,
         "ba7816bf8f01cfea414140de5dae2223b00361a396177a9cb410ff61f20015ad",
     ),
+    // the digest of `v/1-0f.ts`
+    (
+        49,
+        "f13e324ec1afb878d3e831e9bf06b8abe380cbf6b1b4bccf3b542bcd468acbff",
+    ),
+    (50, "none"),
 ];
 
 #[test]
@@ -116,11 +117,9 @@ fn a_title_has_its_lines(rt: HostRuntime) -> Result<(), Fail> {
     let mut shelf = titled_pair(alloc)?;
     let said = held(alloc, &mut shelf, "pair.title")?;
     let text = said.as_str().strip_prefix("held: ").unwrap_or("");
-    let lines = text.lines().count();
-    assert_eq!(rt; lines, 49);
     for (number, wanted) in TITLE_LINES {
         let line = text.lines().nth(number - 1).unwrap_or("none");
-        assert_eq!(rt; line, wanted, "line {number}");
+        same(&rt, line, wanted, "a line of the title");
     }
     Ok(())
 }
@@ -152,8 +151,7 @@ fn sources_are_refused(rt: HostRuntime) -> Result<(), Fail> {
     let mut shelf = pair(alloc)?;
     for (source, wanted) in SOURCES {
         shelf.hold("source", source.as_bytes())?;
-        let got = call(alloc, &mut shelf, "title design source out")?;
-        assert_eq!(rt; got.as_str(), wanted, "at {source}");
+        says(&rt, alloc, &mut shelf, "title design source out", wanted)?;
     }
     Ok(())
 }
@@ -178,8 +176,7 @@ fn designs_are_weighed(rt: HostRuntime) -> Result<(), Fail> {
     let mut shelf = film(alloc)?;
     for (k, c, marked, wanted) in DESIGNS {
         shelf.hold("design", film_design(alloc, k, c, marked)?.as_bytes())?;
-        let got = call(alloc, &mut shelf, "title design source out")?;
-        assert_eq!(rt; got.as_str(), wanted, "at {marked}");
+        says(&rt, alloc, &mut shelf, "title design source out", wanted)?;
     }
     Ok(())
 }
@@ -190,11 +187,10 @@ fn equal_variants_are_told(rt: HostRuntime) -> Result<(), Fail> {
     let alloc = rt.alloc();
     let mut shelf = film(alloc)?;
     shelf.hold("v/3-0a.ts", b"v/2-05.ts")?;
-    let equal = call(alloc, &mut shelf, "title design source out")?;
-    assert_eq!(rt; equal.as_str(), "20: error 20 2 5 3 10\n");
+    let line = "title design source out";
+    says(&rt, alloc, &mut shelf, line, "20: error 20 2 5 3 10\n")?;
     shelf.hold("v/3-0a.ts", b"v/2-05.tz")?;
-    let other = call(alloc, &mut shelf, "title design source out")?;
-    assert_eq!(rt; other.as_str(), "0: ");
+    says(&rt, alloc, &mut shelf, line, "0: ")?;
     Ok(())
 }
 
@@ -225,12 +221,8 @@ fn calls_are_refused(rt: HostRuntime) -> Result<(), Fail> {
     let alloc = rt.alloc();
     let mut shelf = titled_pair(alloc)?;
     shelf.hold("wide", b"register 1\nm 4\nk 3\na 1\nb 0\nlic0\n")?;
-    for (line, wanted) in CALLS {
-        let got = call(alloc, &mut shelf, line)?;
-        assert_eq!(rt; got.as_str(), wanted, "at {line}");
-    }
-    let out = held(alloc, &mut shelf, "out")?;
-    assert_eq!(rt; out.as_str(), "not there");
+    each_says(&rt, alloc, &mut shelf, &CALLS)?;
+    holds(&rt, alloc, &mut shelf, "out", "not there")?;
     Ok(())
 }
 
@@ -266,8 +258,13 @@ fn each_call_of_title_fails(rt: HostRuntime) -> Result<(), Fail> {
     for number in 1u32..71 {
         let mut shelf = pair_failing(alloc, number)?;
         let wanted = title_fails(alloc, number)?;
-        let got = call(alloc, &mut shelf, "title design source out")?;
-        assert_eq!(rt; got.as_str(), wanted.as_str(), "at call {number}");
+        says(
+            &rt,
+            alloc,
+            &mut shelf,
+            "title design source out",
+            wanted.as_str(),
+        )?;
     }
     Ok(())
 }
@@ -288,8 +285,13 @@ fn each_call_of_package_fails(rt: HostRuntime) -> Result<(), Fail> {
     for (number, wanted) in PACKAGE_FAILS {
         let mut shelf = titled_pair(alloc)?;
         shelf.fail(number)?;
-        let got = call(alloc, &mut shelf, "package pair.title reg lic16 out")?;
-        assert_eq!(rt; got.as_str(), wanted, "at call {number}");
+        says(
+            &rt,
+            alloc,
+            &mut shelf,
+            "package pair.title reg lic16 out",
+            wanted,
+        )?;
     }
     Ok(())
 }

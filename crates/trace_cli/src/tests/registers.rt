@@ -1,6 +1,6 @@
 //! `register`, `enrol` and `withdraw`.
 
-use super::calls::{call, held, register};
+use super::calls::{call, each_says, holds, register, says};
 use lists::Memory;
 use shelf_io::MemShelf;
 use std::alloc::Global;
@@ -72,10 +72,7 @@ fn full_and_cut(alloc: Global) -> Result<MemShelf, Memory> {
 fn calls_are_answered(rt: HostRuntime) -> Result<(), Fail> {
     let alloc = rt.alloc();
     let mut shelf = full_and_cut(alloc)?;
-    for (line, wanted) in CALLS {
-        let got = call(alloc, &mut shelf, line)?;
-        assert_eq!(rt; got.as_str(), wanted, "at {line}");
-    }
+    each_says(&rt, alloc, &mut shelf, &CALLS)?;
     Ok(())
 }
 
@@ -93,28 +90,57 @@ fn registers_are_written(rt: HostRuntime) -> Result<(), Fail> {
     let alloc = rt.alloc();
     let mut shelf = after_calls(alloc)?;
     for (name, wanted) in BLOBS {
-        let got = held(alloc, &mut shelf, name)?;
-        assert_eq!(rt; got.as_str(), wanted, "under {name}");
+        holds(&rt, alloc, &mut shelf, name, wanted)?;
     }
     Ok(())
 }
 
-/// A shelf with a register without licensees, whose third call fails: the write after the two parts that are read.
-fn write_fails(alloc: Global) -> Result<MemShelf, Memory> {
+/// Calls that name a register of one licensee, which of the store's calls fails (two parts are read, and then comes the write), and
+/// what is put out.
+const FAILING_CALLS: [(&str, u64, &str); 10] = [
+    ("enrol r0 lic0 r1", 1, "4: error 4 r0\n"),
+    ("enrol r0 lic0 r1", 2, "4: error 4 r0\n"),
+    ("enrol r0 lic0 r1", 3, "5: error 5 r1\n"),
+    ("enrol r0 lic0 r1", 4, "0: "),
+    ("withdraw r0 lic1 r1", 1, "4: error 4 r0\n"),
+    ("withdraw r0 lic1 r1", 2, "4: error 4 r0\n"),
+    ("withdraw r0 lic1 r1", 3, "5: error 5 r1\n"),
+    ("withdraw r0 lic1 r1", 4, "0: "),
+    ("register 4 2 1 0 r1", 1, "5: error 5 r1\n"),
+    ("register 4 2 1 0 r1", 2, "0: "),
+];
+
+/// A shelf with a register of one licensee, whose call of this number fails.
+fn failing(alloc: Global, number: u64) -> Result<MemShelf, Memory> {
     let mut shelf = MemShelf::new(alloc);
-    shelf.hold("r0", b"register 1\nm 4\nk 2\na 1\nb 0\n")?;
-    shelf.fail(3)?;
+    shelf.hold("r0", b"register 1\nm 4\nk 2\na 1\nb 0\nlic1\n")?;
+    shelf.fail(number)?;
     Ok(shelf)
+}
+
+#[test]
+fn each_call_of_a_register_fails(rt: HostRuntime) -> Result<(), Fail> {
+    let alloc = rt.alloc();
+    for (line, number, wanted) in FAILING_CALLS {
+        let mut shelf = failing(alloc, number)?;
+        says(&rt, alloc, &mut shelf, line, wanted)?;
+    }
+    Ok(())
 }
 
 /// The write fails: the register that was read stays.
 #[test]
 fn a_write_fails(rt: HostRuntime) -> Result<(), Fail> {
     let alloc = rt.alloc();
-    let mut shelf = write_fails(alloc)?;
-    let got = call(alloc, &mut shelf, "enrol r0 lic0 r1")?;
-    assert_eq!(rt; got.as_str(), "5: error 5 r1\n");
-    let stays = held(alloc, &mut shelf, "r0")?;
-    assert_eq!(rt; stays.as_str(), "held: register 1\nm 4\nk 2\na 1\nb 0\n");
+    let mut shelf = failing(alloc, 3)?;
+    let stays = "held: register 1\nm 4\nk 2\na 1\nb 0\nlic1\n";
+    says(
+        &rt,
+        alloc,
+        &mut shelf,
+        "enrol r0 lic0 r1",
+        "5: error 5 r1\n",
+    )?;
+    holds(&rt, alloc, &mut shelf, "r0", stays)?;
     Ok(())
 }

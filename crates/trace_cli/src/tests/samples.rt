@@ -1,8 +1,7 @@
 //! `sample`: lines whose numbers were worked out apart, words that are no number, and failures outside.
 
-use super::calls::{call, call_into, call_with};
-use gs_koetter::Koetter;
-use shelf_io::{MemShelf, MemSink};
+use super::calls::{put_fails, says, says_by_steps};
+use shelf_io::MemShelf;
 use std::test::Fail;
 
 /// The line of the number 7, from words of ChaCha20 and a plain count of agreements.
@@ -19,13 +18,9 @@ fn samples_are_summed_up(rt: HostRuntime) -> Result<(), Fail> {
     let alloc = rt.alloc();
     let mut shelf = MemShelf::new(alloc);
     shelf.fail(1)?;
-    let by_algebra = call(alloc, &mut shelf, "sample 7")?;
-    assert_eq!(rt; by_algebra.as_str(), SEVENTH);
-    let mut out = MemSink::new(alloc);
-    let by_steps = call_with(alloc, &mut shelf, &mut out, "sample 7", &Koetter)?;
-    assert_eq!(rt; by_steps.as_str(), SEVENTH);
-    let nought = call(alloc, &mut shelf, "sample 0")?;
-    assert_eq!(rt; nought.as_str(), NOUGHT);
+    says(&rt, alloc, &mut shelf, "sample 7", SEVENTH)?;
+    says_by_steps(&rt, alloc, &mut shelf, "sample 7", SEVENTH)?;
+    says(&rt, alloc, &mut shelf, "sample 0", NOUGHT)?;
     Ok(())
 }
 
@@ -44,8 +39,7 @@ fn words_are_no_number(rt: HostRuntime) -> Result<(), Fail> {
     let alloc = rt.alloc();
     let mut shelf = MemShelf::new(alloc);
     for line in NO_NUMBERS {
-        let got = call(alloc, &mut shelf, line)?;
-        assert_eq!(rt; got.as_str(), "2: error 2 words\n", "at {line}");
+        says(&rt, alloc, &mut shelf, line, "2: error 2 words\n")?;
     }
     Ok(())
 }
@@ -55,12 +49,7 @@ fn words_are_no_number(rt: HostRuntime) -> Result<(), Fail> {
 fn the_put_of_a_sample_fails(rt: HostRuntime) -> Result<(), Fail> {
     let alloc = rt.alloc();
     let mut shelf = MemShelf::new(alloc);
-    let mut out = MemSink::new(alloc);
-    out.fail(1)?;
-    let got = call_into(alloc, &mut shelf, &mut out, "sample 7")?;
-    assert_eq!(rt;
-        got.as_str(),
-        "6: sample 7 licensees 1000 places 64 readable 30 bo"
-    );
+    let half = "6: sample 7 licensees 1000 places 64 readable 30 bo";
+    put_fails(&rt, alloc, &mut shelf, "sample 7", half)?;
     Ok(())
 }
