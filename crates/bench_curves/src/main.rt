@@ -17,8 +17,6 @@ use std::io;
 use std::marker::Brand;
 use std::sync::ledger::Blank;
 
-#[cfg(test)]
-mod tests;
 
 /// What is done in each round.
 #[derive(Debug, Clone, Copy)]

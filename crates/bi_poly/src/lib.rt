@@ -12,8 +12,6 @@ mod rows;
 mod shifting;
 mod stripping;
 mod substitution;
-#[cfg(test)]
-mod tests;
 
 pub use bivariate::BiPoly;
 pub use laws::{degrees_of_shifts, laws_of_maps};

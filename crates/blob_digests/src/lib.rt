@@ -3,8 +3,6 @@
 
 mod digest;
 mod hashing;
-#[cfg(test)]
-mod tests;
 
 pub use digest::Digest;
 pub use hashing::digest_of;

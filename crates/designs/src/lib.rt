@@ -8,8 +8,6 @@ mod document;
 mod errors;
 mod judging;
 mod rules;
-#[cfg(test)]
-mod tests;
 
 pub use design::Design;
 pub use errors::DesignError;

@@ -16,6 +16,3 @@ pub use steps::{Ledger, Steps};
 
 /// A list of elements of the field `F`.
 pub type Elements<F> = Items<F>;
-
-#[cfg(test)]
-mod tests;

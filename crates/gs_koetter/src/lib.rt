@@ -10,7 +10,5 @@ mod frame;
 mod koetter;
 mod points;
 mod raising;
-#[cfg(test)]
-mod tests;
 
 pub use koetter::Koetter;

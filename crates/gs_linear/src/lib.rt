@@ -3,7 +3,5 @@
 
 mod equations;
 mod linear;
-#[cfg(test)]
-mod tests;
 
 pub use linear::Linear;

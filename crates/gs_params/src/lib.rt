@@ -4,8 +4,6 @@
 mod choice;
 mod interpolate;
 mod parameters;
-#[cfg(test)]
-mod tests;
 
 pub use choice::params;
 pub use interpolate::Interpolate;

@@ -18,8 +18,3 @@ pub use errors::{EnrolError, RegisterReadError, WithdrawError};
 pub use licensee::Licensee;
 pub use register::Register;
 pub use register_terms::{NameRefusal, RegisterError, RegisterFault, RegisterKind};
-
-#[cfg(test)]
-mod finding_tests;
-#[cfg(test)]
-mod tests;

@@ -5,7 +5,5 @@ mod elimination;
 mod matrix;
 mod pivot;
 mod solution;
-#[cfg(test)]
-mod tests;
 
 pub use matrix::Matrix;

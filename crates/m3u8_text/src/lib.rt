@@ -13,8 +13,6 @@ mod pieces;
 mod reading;
 mod segment;
 mod tag_values;
-#[cfg(test)]
-mod tests;
 mod waiting;
 mod writing;
 

@@ -7,8 +7,6 @@ mod missing;
 mod places;
 mod rows;
 mod slots;
-#[cfg(test)]
-mod tests;
 
 pub use checking::check;
 pub use report_terms::Verdict;

@@ -5,7 +5,5 @@ mod branches;
 mod numbers;
 mod roots;
 mod search;
-#[cfg(test)]
-mod tests;
 
 pub use roots::poly_roots;

@@ -3,8 +3,6 @@
 
 mod code;
 mod code_error;
-#[cfg(test)]
-mod tests;
 mod word;
 mod word_error;
 mod word_text;

@@ -10,8 +10,6 @@ mod register;
 mod sampling;
 mod source;
 mod summary;
-#[cfg(test)]
-mod tests;
 mod titling;
 mod tracing;
 

@@ -15,8 +15,6 @@ mod shelf;
 mod sink;
 mod std_sink;
 mod taker;
-#[cfg(test)]
-mod tests;
 mod whole;
 
 pub use errors::{FetchError, ShelfError, SinkError};

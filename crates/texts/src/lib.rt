@@ -3,8 +3,6 @@
 
 mod names;
 mod numbers;
-#[cfg(test)]
-mod tests;
 
 pub use names::{is_name, is_plain};
 pub use numbers::{number_text, read_number};

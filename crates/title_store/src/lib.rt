@@ -9,8 +9,6 @@ mod lines;
 mod reading;
 mod rows;
 mod table;
-#[cfg(test)]
-mod tests;
 mod title;
 mod writing;
 

@@ -3,8 +3,6 @@
 
 mod errors;
 mod reading;
-#[cfg(test)]
-mod tests;
 mod writing;
 
 pub use errors::ReportError;

@@ -4,8 +4,6 @@
 mod arithmetic;
 mod poly;
 mod root_search;
-#[cfg(test)]
-mod tests;
 mod values;
 
 pub use arithmetic::add_shifted;

@@ -1,4 +1,0 @@
-use Rattle.bench_curves.proofs.tests.one_curve_is_found_by_both.Given as goal
-
-abbrev pub ghosts-agree_on_all : goal.ghosts-agree_on_all
-ghosts-agree_on_all g a = record { name = a.blank.name; parts = a.blank.parts }

@@ -1,4 +1,0 @@
-use Rattle.bi_poly.proofs.tests.substitutes_polynomials.Given as goal
-
-abbrev pub ghosts-known_values : goal.ghosts-known_values
-ghosts-known_values g a = record { name = a.blank.name; parts = a.blank.parts }

@@ -1,4 +1,0 @@
-use Rattle.gf2m.proofs.tests.adds_multiples.Given as goal
-
-abbrev pub ghosts-known_slices : goal.ghosts-known_slices
-ghosts-known_slices g a = record { name = a.blank.name; parts = a.blank.parts }

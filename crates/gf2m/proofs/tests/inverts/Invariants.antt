@@ -1,4 +1,0 @@
-use Rattle.gf2m.proofs.tests.inverts.Given as goal
-
-abbrev pub ghosts-known_inverses : goal.ghosts-known_inverses
-ghosts-known_inverses g a = record { name = a.blank.name; parts = a.blank.parts }

@@ -1,4 +1,0 @@
-use Rattle.gs_linear.proofs.tests.finds_curves.Given as goal
-
-abbrev pub ghosts-finds : goal.ghosts-finds
-ghosts-finds g a = record { name = a.blank.name; parts = a.blank.parts }

@@ -1,4 +1,0 @@
-use Rattle.lic_register.proofs.finding_tests.finds_by_message.Given as goal
-
-abbrev pub ghosts-finds : goal.ghosts-finds
-ghosts-finds g a = record { name = a.blank.name; parts = a.blank.parts }

@@ -1,4 +1,0 @@
-use Rattle.lic_register.proofs.tests.spreads_the_messages.Given as goal
-
-abbrev pub ghosts-gives_messages : goal.ghosts-gives_messages
-ghosts-gives_messages g a = record { name = a.blank.name; parts = a.blank.parts }

@@ -1,4 +1,0 @@
-use Rattle.rr_roots.proofs.tests.finds_all_roots_in_order.Given as goal
-
-abbrev pub ghosts-known_roots : goal.ghosts-known_roots
-ghosts-known_roots g a = record { name = a.blank.name; parts = a.blank.parts }

@@ -1,4 +1,0 @@
-use Rattle.rs_code.proofs.tests.makes_codewords.Given as goal
-
-abbrev pub ghosts-known_codewords : goal.ghosts-known_codewords
-ghosts-known_codewords g a = record { name = a.blank.name; parts = a.blank.parts }

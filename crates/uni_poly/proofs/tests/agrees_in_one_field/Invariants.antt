@@ -1,4 +1,0 @@
-use Rattle.uni_poly.proofs.tests.agrees_in_one_field.Given as goal
-
-abbrev pub ghosts-known_in_one_field : goal.ghosts-known_in_one_field
-ghosts-known_in_one_field g a = record { name = a.blank.name; parts = a.blank.parts }

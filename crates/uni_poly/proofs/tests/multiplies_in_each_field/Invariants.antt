@@ -1,4 +1,0 @@
-use Rattle.uni_poly.proofs.tests.multiplies_in_each_field.Given as goal
-
-abbrev pub ghosts-known_products : goal.ghosts-known_products
-ghosts-known_products g a = record { name = a.blank.name; parts = a.blank.parts }
