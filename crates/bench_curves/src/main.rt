@@ -17,7 +17,6 @@ use std::io;
 use std::marker::Brand;
 use std::sync::ledger::Blank;
 
-
 /// What is done in each round.
 #[derive(Debug, Clone, Copy)]
 enum Work {

@@ -9,11 +9,9 @@ mod both_interpolators;
 #[cfg(test)]
 mod codewords;
 #[cfg(test)]
+mod curves;
+#[cfg(test)]
 mod field;
-#[cfg(test)]
-mod iterative_curves;
-#[cfg(test)]
-mod linear_curves;
 #[cfg(test)]
 mod parameters;
 #[cfg(test)]

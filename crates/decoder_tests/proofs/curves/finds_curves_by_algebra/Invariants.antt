@@ -1,4 +1,4 @@
-use Rattle.decoder_tests.proofs.linear_curves.finds_curves.Given as goal
+use Rattle.decoder_tests.proofs.curves.finds_curves_by_algebra.Given as goal
 
 abbrev pub ghosts-finds : goal.ghosts-finds
 ghosts-finds g a = record { name = a.blank.name; parts = a.blank.parts }

@@ -1,9 +1,10 @@
-//! Curves through points, one of them worked out by hand.
+//! Curves through points by both interpolators, one of them worked out by hand.
 
 ghost use Rattle.std.specs.Prelude.{◌≡◌, ◌<◌, ◌≤◌, length};
 
 use bi_poly::BiPoly;
 use gf2m::{Field, Gf, Ledger, Steps};
+use gs_koetter::Koetter;
 use gs_linear::Linear;
 use gs_params::{Interpolate, params};
 use std::alloc::Global;
@@ -12,8 +13,9 @@ use std::process::Abort;
 use std::sync::ledger::Blank;
 
 /// The curve for codes of dimension k and coalitions of c.
-fn curve_of<F: Field, P: Ledger>(
+fn curve_of<F: Field, I: Interpolate, P: Ledger>(
     alloc: Global,
+    by: &I,
     k: u32,
     c: u32,
     points: &[(F, F)],
@@ -26,7 +28,7 @@ fn curve_of<F: Field, P: Ledger>(
         return None;
     }
     let chosen = params(k, c, points.len() as u32).ok()?;
-    Linear.curve(alloc, points, &chosen, prods).ok()
+    by.curve(alloc, points, &chosen, prods).ok()
 }
 
 /// So many points with so many first coordinates, which differ as pairs where they are few enough.
@@ -38,6 +40,15 @@ fn points_of<F: Field>(alloc: Global, count: u8, columns: u8) -> Option<Vec<(F, 
         points
             .push((F::of(i % columns)?, F::of(i / columns + i % 3)?))
             .ok()?;
+    }
+    Some(points)
+}
+
+/// So many points whose second coordinate is 0.
+fn points_of_zero<F: Field>(alloc: Global, count: u8) -> Option<Vec<(F, F)>> {
+    let mut points = Vec::new(alloc);
+    'points: for i in 0..count {
+        points.push((F::of(i)?, F::zero())).ok()?;
     }
     Some(points)
 }
@@ -62,19 +73,24 @@ fn vanishes<F: Field, P: Ledger>(
 }
 
 /// Whether the curve through two points with the second coordinate 5 is a multiple of y + 5.
-fn meets_a_line<F: Field, P: Ledger>(alloc: Global, prods: &mut Steps<P>) -> Option<bool> {
+fn meets_a_line<F: Field, I: Interpolate, P: Ledger>(
+    alloc: Global,
+    by: &I,
+    prods: &mut Steps<P>,
+) -> Option<bool> {
     let five = F::of(5)?;
     let mut points = Vec::new(alloc);
     points.push((F::of(0)?, five)).ok()?;
     points.push((F::of(1)?, five)).ok()?;
-    let q = curve_of(alloc, 2, 1, &points, prods)?;
+    let q = curve_of(alloc, by, 2, 1, &points, prods)?;
     let y = q.coef(0, 1);
     Some(y != F::zero() && q.coef(0, 0) == y.mul(five, prods) && q.coef(1, 0) == F::zero())
 }
 
 /// Whether the curve through these points is zero at each with multiplicity s, and weighs less than e.
-fn meets<F: Field, P: Ledger>(
+fn meets<F: Field, I: Interpolate, P: Ledger>(
     alloc: Global,
+    by: &I,
     k: u32,
     c: u32,
     points: &[(F, F)],
@@ -85,26 +101,33 @@ fn meets<F: Field, P: Ledger>(
     requires least_k { 2 ≤ k }
     requires most_k { k ≤ 13 }
 {
-    let q = curve_of(alloc, k, c, points, prods)?;
+    let q = curve_of(alloc, by, k, c, points, prods)?;
     let degree = q.weighted_degree(k as usize - 1)?;
     Some(degree < e && vanishes(&q, points, s, prods))
 }
 
 /// Finds the curves of the table, and compares each.
-fn finds<P: Ledger>(rt: &impl Abort, alloc: Global, blank: Blank)
+fn finds<I: Interpolate, P: Ledger>(rt: &impl Abort, alloc: Global, by: &I, blank: Blank)
     requires name { blank.name ≡ P.name }
     requires parts { blank.parts ≡ P.parts }
     requires some { 0 < P.parts }
 {
     let mut prods = Steps::<P>::new(blank);
-    assert!(rt; meets_a_line::<Gf<4>, P>(alloc, &mut prods) == Some(true));
+    assert!(rt; meets_a_line::<Gf<4>, I, P>(alloc, by, &mut prods) == Some(true));
     let many = points_of::<Gf<8>>(alloc, 200, 200).unwrap_or(Vec::new(alloc));
-    assert!(rt; meets(alloc, 5, 3, &many, 1, 39, &mut prods) == Some(true));
+    assert!(rt; meets(alloc, by, 5, 3, &many, 1, 39, &mut prods) == Some(true));
     let shared = points_of::<Gf<5>>(alloc, 30, 15).unwrap_or(Vec::new(alloc));
-    assert!(rt; meets(alloc, 3, 3, &shared, 2, 19, &mut prods) == Some(true));
+    assert!(rt; meets(alloc, by, 3, 3, &shared, 2, 19, &mut prods) == Some(true));
+    let zeros = points_of_zero::<Gf<5>>(alloc, 19).unwrap_or(Vec::new(alloc));
+    assert!(rt; meets(alloc, by, 3, 3, &zeros, 3, 21, &mut prods) == Some(true));
 }
 
 #[test]
-fn finds_curves(rt: HostRuntime) {
-    finds::<Brand>(&rt, rt.alloc(), Blank::new(1));
+fn finds_curves_by_algebra(rt: HostRuntime) {
+    finds::<Linear, Brand>(&rt, rt.alloc(), &Linear, Blank::new(1));
+}
+
+#[test]
+fn finds_curves_by_steps(rt: HostRuntime) {
+    finds::<Koetter, Brand>(&rt, rt.alloc(), &Koetter, Blank::new(1));
 }
