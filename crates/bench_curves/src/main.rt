@@ -6,7 +6,7 @@
 ghost use Rattle.std.specs.Prelude.{◌≡◌, ◌<◌, ◌≤◌, length, IfOk};
 
 use bi_poly::BiPoly;
-use gf2m::{Field, Gf, Ledger, Steps};
+use gf2m::{Field, Gf};
 use gs_koetter::Koetter;
 use gs_linear::Linear;
 use gs_params::{Interpolate, Params, params};
@@ -16,6 +16,7 @@ use std::alloc::Global;
 use std::io;
 use std::marker::Brand;
 use std::sync::ledger::Blank;
+use steps::{Ledger, ProductLedger, Products, Steps};
 
 /// What is done in each round.
 #[derive(Debug, Clone, Copy)]
@@ -84,7 +85,7 @@ fn element<F: Field>(number: u32) -> F {
 }
 
 /// The value at x of a polynomial with the coefficients that belong to the seed.
-fn value<F: Field, P: Ledger>(k: u32, seed: u32, x: F, prods: &mut Steps<P>) -> F {
+fn value<F: Field, P: Products>(k: u32, seed: u32, x: F, prods: &mut Steps<P>) -> F {
     let mut number = seed;
     let mut value = F::zero();
     for _ in 0..k {
@@ -94,7 +95,7 @@ fn value<F: Field, P: Ledger>(k: u32, seed: u32, x: F, prods: &mut Steps<P>) -> 
 }
 
 /// The points of a coalition's word, each with the symbol of one of its c members.
-fn coalition<F: Field, P: Ledger>(
+fn coalition<F: Field, P: Products>(
     alloc: Global,
     job: Job,
     seed: u32,
@@ -121,7 +122,7 @@ fn with_number(sum: u64, number: u64) -> u64 {
 }
 
 /// What is found with the points of one round.
-fn found<F: Field, P: Ledger>(
+fn found<F: Field, P: Products>(
     alloc: Global,
     job: Job,
     points: &[(F, F)],
@@ -138,7 +139,7 @@ fn found<F: Field, P: Ledger>(
 }
 
 /// A number that depends on what is found with the points of one round.
-fn checked<F: Field, P: Ledger>(
+fn checked<F: Field, P: Products>(
     alloc: Global,
     job: Job,
     points: &[(F, F)],
@@ -155,7 +156,7 @@ fn checked<F: Field, P: Ledger>(
 }
 
 /// How many roots the curve has that goes through the points.
-fn roots<F: Field, P: Ledger>(
+fn roots<F: Field, P: Products>(
     alloc: Global,
     points: &[(F, F)],
     chosen: &Params,
@@ -169,7 +170,7 @@ fn roots<F: Field, P: Ledger>(
 }
 
 /// A multiple of the second slice added to the first in each round.
-fn slices<F: Field, P: Ledger>(
+fn slices<F: Field, P: Products>(
     alloc: Global,
     rounds: u32,
     prods: &mut Steps<P>,
@@ -183,21 +184,22 @@ fn slices<F: Field, P: Ledger>(
 }
 
 /// Does the job, and gives a number that hangs on all that it computed.
-fn run<P: Ledger>(alloc: Global, job: Job, blank: Blank) -> Result<u64, Memory>
+fn run<P: Ledger>(rt: &HostRuntime, job: Job, blank: Blank) -> Result<u64, Memory>
     requires name { blank.name ≡ P.name }
     requires parts { blank.parts ≡ P.parts }
     requires some { 0 < P.parts }
 {
-    let mut prods = Steps::<P>::new(blank);
+    let alloc = rt.alloc();
+    let mut prods = Steps::<ProductLedger<P>>::new(rt, blank);
     if let Work::Slices = job.work {
-        return slices::<Gf<8>, P>(alloc, job.rounds, &mut prods);
+        return slices::<Gf<8>, _>(alloc, job.rounds, &mut prods);
     }
     let Ok(chosen) = params(job.k, job.c, job.r) else {
         return Ok(0);
     };
     let mut sum: u64 = 0;
     for round in 0..job.rounds {
-        let points = coalition::<Gf<8>, P>(alloc, job, round, &mut prods)?;
+        let points = coalition::<Gf<8>, _>(alloc, job, round, &mut prods)?;
         let result = checked(alloc, job, &points, &chosen, &mut prods)?;
         sum = with_number(sum, result);
     }
@@ -211,7 +213,7 @@ fn main(rt: HostRuntime) -> io::Result<()> {
             println!(rt; "no job")?;
             continue;
         };
-        match run::<Brand>(rt.alloc(), job, Blank::new(1)) {
+        match run::<Brand>(&rt, job, Blank::new(1)) {
             Ok(sum) => println!(rt; "{sum}")?,
             Err(Memory) => println!(rt; "no memory")?,
         }

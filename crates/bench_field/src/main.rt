@@ -5,11 +5,12 @@
 
 ghost use Rattle.std.specs.Prelude.{◌≡◌, ◌<◌, ◌≤◌, length};
 
-use gf2m::{Field, Gf, Ledger, Steps};
+use gf2m::{Field, Gf};
 use std::alloc::{AllocError, Global};
 use std::io;
 use std::marker::Brand;
 use std::sync::ledger::Blank;
+use steps::{Ledger, ProductLedger, Products, Steps};
 
 /// One loop to run.
 #[derive(Debug, Clone, Copy)]
@@ -49,7 +50,7 @@ fn elements<F: Field>(alloc: Global, count: u32, step: u32) -> Result<Vec<F>, Al
 }
 
 /// Sums of products, each round's put among the factors of the next.
-fn products<F: Field, P: Ledger>(xs: &mut [F], ys: &[F], rounds: u32, prods: &mut Steps<P>)
+fn products<F: Field, P: Products>(xs: &mut [F], ys: &[F], rounds: u32, prods: &mut Steps<P>)
     requires { length xs.old ≡ length ys.now }
 {
     let mut sum = F::zero();
@@ -64,7 +65,7 @@ fn products<F: Field, P: Ledger>(xs: &mut [F], ys: &[F], rounds: u32, prods: &mu
 }
 
 /// A multiple of the second slice added to the first in each round.
-fn slices<F: Field, P: Ledger>(xs: &mut [F], ys: &[F], rounds: u32, prods: &mut Steps<P>)
+fn slices<F: Field, P: Products>(xs: &mut [F], ys: &[F], rounds: u32, prods: &mut Steps<P>)
     requires { length xs.old ≡ length ys.now }
 {
     for round in 0..rounds {
@@ -84,7 +85,7 @@ fn checksum<F: Field>(xs: &[F]) -> u32 {
 }
 
 /// Does the job over one field.
-fn run<F: Field, P: Ledger>(
+fn run<F: Field, P: Products>(
     alloc: Global,
     job: Job,
     prods: &mut Steps<P>,
@@ -102,18 +103,19 @@ fn run<F: Field, P: Ledger>(
 }
 
 /// Does the job over the field that it names.
-fn run_in_field<P: Ledger>(alloc: Global, job: Job, blank: Blank) -> Result<u32, AllocError>
+fn run_in_field<P: Ledger>(rt: &HostRuntime, job: Job, blank: Blank) -> Result<u32, AllocError>
     requires name { blank.name ≡ P.name }
     requires parts { blank.parts ≡ P.parts }
     requires some { 0 < P.parts }
 {
-    let mut prods = Steps::<P>::new(blank);
+    let alloc = rt.alloc();
+    let mut prods = Steps::<ProductLedger<P>>::new(rt, blank);
     match job.bits {
-        4 => run::<Gf<4>, P>(alloc, job, &mut prods),
-        5 => run::<Gf<5>, P>(alloc, job, &mut prods),
-        6 => run::<Gf<6>, P>(alloc, job, &mut prods),
-        7 => run::<Gf<7>, P>(alloc, job, &mut prods),
-        _ => run::<Gf<8>, P>(alloc, job, &mut prods),
+        4 => run::<Gf<4>, _>(alloc, job, &mut prods),
+        5 => run::<Gf<5>, _>(alloc, job, &mut prods),
+        6 => run::<Gf<6>, _>(alloc, job, &mut prods),
+        7 => run::<Gf<7>, _>(alloc, job, &mut prods),
+        _ => run::<Gf<8>, _>(alloc, job, &mut prods),
     }
 }
 
@@ -124,7 +126,7 @@ fn main(rt: HostRuntime) -> io::Result<()> {
             println!(rt; "no loop")?;
             continue;
         };
-        let sum = run_in_field::<Brand>(rt.alloc(), job, Blank::new(1))?;
+        let sum = run_in_field::<Brand>(&rt, job, Blank::new(1))?;
         println!(rt; "{sum}")?;
     }
     Ok(())

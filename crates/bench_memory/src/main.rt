@@ -15,7 +15,7 @@ use std::alloc::Global;
 use std::marker::Brand;
 use std::process::ExitCode;
 use std::sync::ledger::Blank;
-use steps::{Ledger, Steps};
+use steps::{Ledger, LookLedger, Steps};
 use trial::Trial;
 
 /// Ends with 1 where a call was refused and its object kept, and else with 0, also where one was not kept; the lines tell.
@@ -36,7 +36,7 @@ fn tried<Q: Ledger>(rt: HostRuntime, looks: Blank) -> u8
 {
     let alloc = rt.alloc();
     let mut out = StdSink::new(rt.stdout());
-    let mut looks = Steps::<Q>::new(looks);
+    let mut looks = Steps::<LookLedger<Q>>::new(&rt, looks);
     let trials = [
         ("enrol", registers::enrol_tried(alloc, &mut looks)),
         ("withdraw", registers::withdraw_tried(alloc, &mut looks)),

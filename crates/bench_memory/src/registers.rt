@@ -3,14 +3,14 @@
 use crate::trial::Trial;
 use lic_register::Register;
 use std::alloc::Global;
-use steps::{Ledger, Steps};
+use steps::{Looks, Steps};
 
 /// A register of three licensees, of which the second is withdrawn.
 const TEXT: &[u8] =
     b"register 2\nm 4\nk 2\na 77\nb 150\nactive lic0\nwithdrawn lic1\nactive lic2\n";
 
 /// Enrols a fourth licensee.
-pub(crate) fn enrol_tried<Q: Ledger>(alloc: Global, looks: &mut Steps<Q>) -> Trial {
+pub(crate) fn enrol_tried<Q: Looks>(alloc: Global, looks: &mut Steps<Q>) -> Trial {
     let (Ok(mut register), Ok(copy)) = (Register::read(alloc, TEXT), Register::read(alloc, TEXT))
     else {
         return Trial::Unprepared;
@@ -23,7 +23,7 @@ pub(crate) fn enrol_tried<Q: Ledger>(alloc: Global, looks: &mut Steps<Q>) -> Tri
 }
 
 /// Withdraws the third licensee.
-pub(crate) fn withdraw_tried<Q: Ledger>(alloc: Global, looks: &mut Steps<Q>) -> Trial {
+pub(crate) fn withdraw_tried<Q: Looks>(alloc: Global, looks: &mut Steps<Q>) -> Trial {
     let (Ok(mut register), Ok(copy)) = (Register::read(alloc, TEXT), Register::read(alloc, TEXT))
     else {
         return Trial::Unprepared;
@@ -36,7 +36,7 @@ pub(crate) fn withdraw_tried<Q: Ledger>(alloc: Global, looks: &mut Steps<Q>) -> 
 }
 
 /// Whether two registers have one text.
-fn are_same<Q: Ledger>(one: &Register, other: &Register, looks: &mut Steps<Q>) -> bool {
+fn are_same<Q: Looks>(one: &Register, other: &Register, looks: &mut Steps<Q>) -> bool {
     match (one.write(looks), other.write(looks)) {
         (Ok(one), Ok(other)) => one.as_slice() == other.as_slice(),
         _ => false,

@@ -5,13 +5,14 @@
 
 ghost use Rattle.std.specs.Prelude.{◌≡◌, ◌*◌, ◌<◌, ◌≤◌, length, IfOk};
 
-use gf2m::{Field, Gf, Ledger, Steps};
+use gf2m::{Field, Gf};
 use linear_solve::Matrix;
 use lists::Memory;
 use std::alloc::Global;
 use std::io;
 use std::marker::Brand;
 use std::sync::ledger::Blank;
+use steps::{Ledger, ProductLedger, Products, Steps};
 
 /// What is done with each matrix.
 #[derive(Debug, Clone, Copy)]
@@ -107,7 +108,7 @@ fn with_elements<F: Field>(sum: u64, elements: &[F]) -> u64 {
 }
 
 /// The checksum with what one matrix gives: the entry in its last row and column, its kernel's vector, or its rank.
-fn one_round<F: Field, P: Ledger>(
+fn one_round<F: Field, P: Products>(
     alloc: Global,
     job: Job,
     sum: u64,
@@ -129,7 +130,11 @@ fn one_round<F: Field, P: Ledger>(
 }
 
 /// Does the job over one field.
-fn run<F: Field, P: Ledger>(alloc: Global, job: Job, prods: &mut Steps<P>) -> Result<u64, Memory> {
+fn run<F: Field, P: Products>(
+    alloc: Global,
+    job: Job,
+    prods: &mut Steps<P>,
+) -> Result<u64, Memory> {
     let mut sum: u64 = 0;
     let mut number: u32 = 1;
     for _ in 0..job.rounds {
@@ -139,18 +144,19 @@ fn run<F: Field, P: Ledger>(alloc: Global, job: Job, prods: &mut Steps<P>) -> Re
 }
 
 /// Does the job over the field that it names.
-fn run_in_field<P: Ledger>(alloc: Global, job: Job, blank: Blank) -> Result<u64, Memory>
+fn run_in_field<P: Ledger>(rt: &HostRuntime, job: Job, blank: Blank) -> Result<u64, Memory>
     requires name { blank.name ≡ P.name }
     requires parts { blank.parts ≡ P.parts }
     requires some { 0 < P.parts }
 {
-    let mut prods = Steps::<P>::new(blank);
+    let alloc = rt.alloc();
+    let mut prods = Steps::<ProductLedger<P>>::new(rt, blank);
     match job.bits {
-        4 => run::<Gf<4>, P>(alloc, job, &mut prods),
-        5 => run::<Gf<5>, P>(alloc, job, &mut prods),
-        6 => run::<Gf<6>, P>(alloc, job, &mut prods),
-        7 => run::<Gf<7>, P>(alloc, job, &mut prods),
-        _ => run::<Gf<8>, P>(alloc, job, &mut prods),
+        4 => run::<Gf<4>, _>(alloc, job, &mut prods),
+        5 => run::<Gf<5>, _>(alloc, job, &mut prods),
+        6 => run::<Gf<6>, _>(alloc, job, &mut prods),
+        7 => run::<Gf<7>, _>(alloc, job, &mut prods),
+        _ => run::<Gf<8>, _>(alloc, job, &mut prods),
     }
 }
 
@@ -161,7 +167,7 @@ fn main(rt: HostRuntime) -> io::Result<()> {
             println!(rt; "no job")?;
             continue;
         };
-        match run_in_field::<Brand>(rt.alloc(), job, Blank::new(1)) {
+        match run_in_field::<Brand>(&rt, job, Blank::new(1)) {
             Ok(sum) => println!(rt; "{sum}")?,
             Err(Memory) => println!(rt; "no memory")?,
         }

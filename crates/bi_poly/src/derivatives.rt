@@ -11,11 +11,11 @@ ghost use Rattle.bi_poly.specs.Rows.{derivative_sum};
 use crate::bivariate::BiPoly;
 use crate::row::Row;
 use crate::rows::height;
-use gf2m::{Field, Ledger, Steps};
+use gf2m::{Field, Products, Steps};
 
 impl<F: Field> BiPoly<F> {
     /// The Hasse derivative of order u in x and v in y, at x = a and y = b.
-    pub fn hasse<P: Ledger>(&self, u: usize, v: usize, a: F, b: F, prods: &mut Steps<P>) -> F
+    pub fn hasse<P: Products>(&self, u: usize, v: usize, a: F, b: F, prods: &mut Steps<P>) -> F
         ensures value { result ≡ hasse_derivative F.ring self.now u v a b }
         // for each power of y up to the greatest, two more than the greatest power of x beside it
         ensures products { prods.new ≤ prods.old + row_total 2 self.now }
@@ -32,7 +32,7 @@ impl<F: Field> BiPoly<F> {
 }
 
 /// The row's derivative where the binomial of j over v is odd, and else zero.
-fn derivative_where_odd<F: Field, P: Ledger>(
+fn derivative_where_odd<F: Field, P: Products>(
     row: &Row<F>,
     u: usize,
     a: F,
@@ -53,7 +53,7 @@ fn derivative_where_odd<F: Field, P: Ledger>(
 }
 
 /// The Hasse derivative of order u at a of the polynomial in x with these coefficients.
-fn derivative<F: Field, P: Ledger>(coefs: &[F], u: usize, a: F, prods: &mut Steps<P>) -> F
+fn derivative<F: Field, P: Products>(coefs: &[F], u: usize, a: F, prods: &mut Steps<P>) -> F
     ensures value { result ≡ derivative_sum F.ring (length coefs.now) coefs.now u a }
     ensures products { prods.new ≤ prods.old + length coefs.now }
 {

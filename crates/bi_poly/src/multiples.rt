@@ -10,13 +10,13 @@ ghost use Rattle.bi_poly.specs.Rows.{HaveRoom, cell, row_at};
 use crate::bivariate::BiPoly;
 use crate::row::Row;
 use crate::rows::{grow_rows, height};
-use gf2m::{Field, Ledger, Steps};
+use gf2m::{Field, Products, Steps};
 use lists::Memory;
 use std::alloc::AllocError;
 
 impl<F: Field> BiPoly<F> {
     /// Adds the factor times the other polynomial. The only error is want of memory.
-    pub fn add_multiple<P: Ledger>(
+    pub fn add_multiple<P: Products>(
         &mut self,
         other: &BiPoly<F>,
         factor: F,
@@ -56,7 +56,7 @@ fn grow_all<F: Field>(
 }
 
 /// Adds the factor times the first of the others to the first rows.
-fn add_rows<F: Field, P: Ledger>(
+fn add_rows<F: Field, P: Products>(
     rows: &mut Vec<Row<F>>,
     others: &[Row<F>],
     count: usize,

@@ -3,7 +3,7 @@
 ghost use Rattle.std.specs.Prelude.{◌≡◌, ℕ, ◌+◌, ◌<◌, ◌≤◌, length, drop, set, IfOk, OnOk, [], ◌++◌, replicate};
 ghost use Rattle.algebra.specs.Lists.{IsListOf, coefficients};
 
-use gf2m::{Field, Ledger, Steps};
+use gf2m::{Field, Products, Steps};
 use std::alloc::{AllocError, Global};
 use std::marker::Model;
 use uni_poly::{add_shifted, trimmed};
@@ -92,7 +92,7 @@ impl<F: Field> Row<F> {
     }
 
     /// Adds the factor times x^at times these coefficients.
-    pub(crate) fn add_shifted<P: Ledger>(
+    pub(crate) fn add_shifted<P: Products>(
         &mut self,
         source: &[F],
         factor: F,

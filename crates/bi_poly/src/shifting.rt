@@ -25,13 +25,13 @@ ghost use Rattle.bi_poly.specs.Rows.{ArePowers, cell};
 use crate::bivariate::BiPoly;
 use crate::row::Row;
 use crate::rows::height;
-use gf2m::{Field, Ledger, Steps};
+use gf2m::{Field, Products, Steps};
 use lists::Memory;
 use std::alloc::{AllocError, Global};
 
 impl<F: Field> BiPoly<F> {
     /// Q(x, x y + g). The only error is want of memory.
-    pub fn shift<P: Ledger>(&self, g: F, prods: &mut Steps<P>) -> Result<BiPoly<F>, Memory>
+    pub fn shift<P: Products>(&self, g: F, prods: &mut Steps<P>) -> Result<BiPoly<F>, Memory>
         requires { greatest x_power self.now + greatest y_power self.now < 65536 }
         ensures value { IfOk result (λ shifted. IsMapOf F.number (shift_of F.ring self.now g)
             shifted) }
@@ -52,7 +52,7 @@ impl<F: Field> BiPoly<F> {
 }
 
 /// The first powers of g, from g^0 on.
-fn powers<F: Field, P: Ledger>(
+fn powers<F: Field, P: Products>(
     alloc: Global,
     g: F,
     count: usize,
@@ -73,7 +73,7 @@ fn powers<F: Field, P: Ledger>(
 }
 
 /// The row of y^h in Q(x, x y + g), from as many rows as there are powers of g.
-fn shifted_row<F: Field, P: Ledger>(
+fn shifted_row<F: Field, P: Products>(
     alloc: Global,
     rows: &[Row<F>],
     powers: &[F],
@@ -113,7 +113,7 @@ fn raised<F: Field>(alloc: Global, coefs: &[F], at: usize) -> Result<Row<F>, All
 }
 
 /// Adds the power of g times these coefficients from x^h on, where the binomial of j over h is odd.
-fn add_term<F: Field, P: Ledger>(
+fn add_term<F: Field, P: Products>(
     row: &mut Row<F>,
     coefs: &[F],
     power: F,

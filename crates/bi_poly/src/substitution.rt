@@ -5,13 +5,13 @@ ghost use Rattle.algebra.specs.Bivariate.{IsWithin, coefficient, substituted};
 ghost use Rattle.algebra.specs.Lists.{IsListOf, coefficients};
 
 use crate::bivariate::BiPoly;
-use gf2m::{Field, Ledger, Steps};
+use gf2m::{Field, Products, Steps};
 use lists::Memory;
 use uni_poly::Poly;
 
 impl<F: Field> BiPoly<F> {
     /// Q(x, f(x)). The only error is want of memory.
-    pub fn substitute<P: Ledger>(
+    pub fn substitute<P: Products>(
         &self,
         f: &Poly<F>,
         prods: &mut Steps<P>,

@@ -1,9 +1,12 @@
 //! A blob hashed while its parts come.
 
-ghost use Rattle.std.specs.Prelude.{◌≡◌, IsTrue, ℕ, List, [], false};
+ghost use Rattle.std.specs.Prelude.{◌≡◌, IfErr, IsTrue, ℕ, List, [], false};
 ghost use Rattle.text_terms.specs.Names.{is_name};
 ghost use Rattle.sha2.specs.Sha256.{sha256};
 ghost use Rattle.shelf_terms.specs.Causes.{ReadCauses};
+ghost use Rattle.shelf_terms.specs.declared.limit.TheConstants.{BLOB_LIMIT};
+ghost use Rattle.records.specs.Parts.{Came};
+ghost use Rattle.shelf_io.specs.Events.{RefusedIs};
 ghost use Rattle.shelf_io.specs.Reads.{fetch_failed, fetch_missed};
 ghost use Rattle.blob_digests.specs.Digests.{DigestGives, Stands};
 
@@ -18,10 +21,12 @@ use std::alloc::Global;
 /// kept.
 pub fn digest_of<S: Shelf>(alloc: Global, shelf: &mut S, name: &str) -> Result<Digest, FetchError>
     requires name { IsTrue (is_name name.now) }
-    // Where the blobs are told, which digest it is, or why there is none.
-    ensures digest { DigestGives (S.holds shelf.old) name.now result }
-    ensures same { S.holds shelf.new ≡ S.holds shelf.old }
-    ensures causes { ReadCauses (S.counts shelf.old) (S.counts shelf.new) name.now
+    // The digest of all that the store gave; where the blobs are told, of the blob, or why there is none.
+    ensures digest { DigestGives (S.store shelf.old) (S.store shelf.new) name.now result }
+    ensures refused { IfErr result (λ e. Came name.now (S.store shelf.old).events
+        (S.store shelf.new).events (RefusedIs name.now BLOB_LIMIT e)) }
+    ensures same { (S.store shelf.new).told ≡ (S.store shelf.old).told }
+    ensures causes { ReadCauses (S.store shelf.old).counts (S.store shelf.new).counts name.now
         (fetch_failed result) (fetch_missed result) }
 {
     let mut hashing = Hashing::new();

@@ -4,24 +4,24 @@ ghost use Rattle.std.specs.Prelude.{◌≡◌, true, IsTrue};
 ghost use Rattle.text_terms.specs.Names.{is_name};
 ghost use Rattle.packaging_terms.specs.Licensees.{fits};
 ghost use Rattle.outcome_terms.specs.CheckCommand.{check};
-ghost use Rattle.outcome_terms.specs.Stores.{Follows, seen, store};
+ghost use Rattle.outcome_terms.specs.Stores.{Follows, seen};
 ghost use Rattle.check_commands.specs.Checks.{checked};
 
 use crate::judging::judged;
 use crate::report::findings_under;
 use command_io::register_under;
-use copy_commands::{fits, is_served, mismatch, word_shown};
+use copy_io::{fits, is_served, mismatch, word_shown};
 use lic_register::Register;
 use outcome_terms::{Fault, Refusal};
 use shelf_io::Shelf;
 use std::alloc::Global;
-use steps::{Ledger, Steps};
+use steps::{Looks, Products, Steps};
 use title_io::title_under;
 use title_store::Title;
 
 /// The answer to the report, for the title, the register and the copy.
 #[tactic(auto, using(outcome_terms::proofs::Readings::reading_rules), unfolding(outcome_terms::specs::CheckCommand::check, crate::specs::Checks::checked))]
-pub fn check<S: Shelf, P: Ledger, Q: Ledger>(
+pub fn check<S: Shelf, P: Products, Q: Looks>(
     alloc: Global,
     shelf: &mut S,
     title: &str,
@@ -36,7 +36,7 @@ pub fn check<S: Shelf, P: Ledger, Q: Ledger>(
     requires copy { IsTrue (is_name copy.now) }
     requires report { IsTrue (is_name report.now) }
     ensures { Follows (check title.now register.now copy.now report.now)
-        (store S.holds S.counts shelf.old) (store S.holds S.counts shelf.new)
+        (S.store shelf.old) (S.store shelf.new)
         (seen (λ text. text.items) result) }
 {
     let title = title_under(alloc, shelf, title)?;
@@ -49,7 +49,7 @@ pub fn check<S: Shelf, P: Ledger, Q: Ledger>(
 
 /// The answer to the report, for a title and a register of one code.
 #[tactic(auto, using(outcome_terms::proofs::Readings::reading_rules), unfolding(crate::specs::Checks::checked))]
-fn checked<S: Shelf, P: Ledger, Q: Ledger>(
+fn checked<S: Shelf, P: Products, Q: Looks>(
     alloc: Global,
     shelf: &mut S,
     title: &Title,
@@ -63,7 +63,7 @@ fn checked<S: Shelf, P: Ledger, Q: Ledger>(
     requires copy { IsTrue (is_name copy.now) }
     requires report { IsTrue (is_name report.now) }
     ensures { Follows (checked title.now register.now copy.now report.now)
-        (store S.holds S.counts shelf.old) (store S.holds S.counts shelf.new)
+        (S.store shelf.old) (S.store shelf.new)
         (seen (λ text. text.items) result) }
 {
     let findings = findings_under(alloc, shelf, report)?;

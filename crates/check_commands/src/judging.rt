@@ -20,14 +20,14 @@ use outcome_terms::{Fault, Refusal};
 use report_check::{Verdict, check};
 use rs_code::{Code, Word};
 use std::alloc::Global;
-use steps::{Ledger, Steps};
+use steps::{Looks, Products, Steps};
 use title_store::Title;
 
 /// What is put out for a report that is right.
 const RIGHT: &[u8] = b"right\n";
 
 /// The answer to findings in a word that a copy shows of the title.
-pub(crate) fn judged<P: Ledger, Q: Ledger>(
+pub(crate) fn judged<P: Products, Q: Looks>(
     alloc: Global,
     title: &Title,
     register: &Register,
@@ -49,7 +49,7 @@ pub(crate) fn judged<P: Ledger, Q: Ledger>(
 
 /// The answer to findings in a word.
 #[tactic(auto, unfolding(outcome_terms::specs::CheckCommand::judged))]
-fn judged_word<P: Ledger, Q: Ledger>(
+fn judged_word<P: Products, Q: Looks>(
     alloc: Global,
     register: &Register,
     word: &Word,
@@ -88,7 +88,7 @@ fn told(alloc: Global, needed: u32, verdict: Verdict) -> Result<Vec<u8>, Refusal
 }
 
 /// The verdict on findings in a word, over the field of the register.
-fn verdict_on<P: Ledger, Q: Ledger>(
+fn verdict_on<P: Products, Q: Looks>(
     register: &Register,
     word: &Word,
     findings: &Findings,
@@ -110,7 +110,7 @@ fn verdict_on<P: Ledger, Q: Ledger>(
 }
 
 /// The same over this field.
-fn verdict_over<F: Field, P: Ledger, Q: Ledger>(
+fn verdict_over<F: Field, P: Products, Q: Looks>(
     register: &Register,
     word: &Word,
     findings: &Findings,

@@ -6,7 +6,7 @@ ghost use Rattle.report_terms.specs.Reports.{report_of};
 ghost use Rattle.outcome_terms.specs.declared.fault.Fault.TheVariants.{BadReport};
 ghost use Rattle.outcome_terms.specs.Reading.{found};
 ghost use Rattle.outcome_terms.specs.CheckCommand.{findings_under};
-ghost use Rattle.outcome_terms.specs.Stores.{Follows, Settles, store};
+ghost use Rattle.outcome_terms.specs.Stores.{Follows, Settles};
 
 use command_io::bytes_under;
 use desk_terms::Findings;
@@ -23,8 +23,8 @@ pub(crate) fn findings_under<S: Shelf>(
     name: &str,
 ) -> Result<Findings, Refusal>
     requires { IsTrue (is_name name.now) }
-    ensures { Follows (findings_under name.now) (store S.holds S.counts shelf.old)
-        (store S.holds S.counts shelf.new) result }
+    ensures { Follows (findings_under name.now) (S.store shelf.old)
+        (S.store shelf.new) result }
 {
     let bytes = bytes_under(alloc, shelf, name)?;
     findings_of_bytes(alloc, bytes)

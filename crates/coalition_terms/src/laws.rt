@@ -6,6 +6,8 @@ ghost use Rattle.algebra.specs.Roots.{AreDifferent};
 ghost use Rattle.algebra.specs.Series.{IsBelow, value};
 ghost use Rattle.coalition_terms.specs.Coalition.{Explains, IsCoalition, IsTraced};
 ghost use Rattle.coalition_terms.specs.Distance.{common_places};
+ghost use Rattle.coalition_terms.specs.Merged.{AreTraced, ExplainsPairs};
+ghost use Rattle.pair_terms.specs.Pairs.{ArePairs, Pair};
 ghost use Rattle.code_terms.specs.Words.{readable, three_colluders};
 ghost use Rattle.decoder_terms.specs.Decoding.{not_enough};
 ghost use Rattle.desk_terms.specs.Examples.{first_licensees};
@@ -24,6 +26,16 @@ pub fn coalitions_are_traced()
         → 4 ≤ roll.bits → roll.bits ≤ 8 → length word ≤ 2 ^ roll.bits → 1 ≤ c
         → not_enough roll.dimension c < readable word → IsCoalition roll c members
         → Explains roll members word → IsTraced roll word c members }
+{}
+
+/// The same over pairs, of which several may stand at one place: where a coalition of at most c licensees made them, and they
+/// are more than c² (k - 1), the desk accuses members of the coalition alone, and at least one of them. The law over words is
+/// its case.
+pub fn merged_coalitions_are_traced()
+    ensures { (roll : Roll) (pairs : List Pair) (c : ℕ) (members : List ℕ) → IsRoll roll
+        → 4 ≤ roll.bits → roll.bits ≤ 8 → ArePairs (2 ^ roll.bits) pairs → 1 ≤ c
+        → not_enough roll.dimension c < length pairs → IsCoalition roll c members
+        → ExplainsPairs roll members pairs → AreTraced roll pairs c members }
 {}
 
 /// Two polynomials with n coefficients each that have the same values at n different points of a field are the same.

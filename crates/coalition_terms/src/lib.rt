@@ -4,5 +4,6 @@
 mod laws;
 
 pub use laws::{
-    coalitions_are_traced, codewords_are_far_apart, values_tell_polynomials, worked_examples,
+    coalitions_are_traced, codewords_are_far_apart, merged_coalitions_are_traced,
+    values_tell_polynomials, worked_examples,
 };

@@ -6,7 +6,7 @@ ghost use Rattle.register_terms.specs.RegisterText.{register_of};
 ghost use Rattle.outcome_terms.specs.declared.fault.Fault.TheVariants.{BadRegister};
 ghost use Rattle.outcome_terms.specs.Reading.{blob, understood};
 ghost use Rattle.outcome_terms.specs.Registers.{register_under};
-ghost use Rattle.outcome_terms.specs.Stores.{Follows, Reads, Settles, seen, store};
+ghost use Rattle.outcome_terms.specs.Stores.{Follows, Reads, Settles, seen};
 
 use lic_register::{Register, RegisterReadError};
 use lists::Text;
@@ -19,8 +19,8 @@ use std::alloc::Global;
 #[tactic(auto, using(outcome_terms::proofs::Readings::read_follows))]
 pub fn bytes_under<S: Shelf>(alloc: Global, shelf: &mut S, name: &str) -> Result<Vec<u8>, Refusal>
     requires { IsTrue (is_name name.now) }
-    ensures bytes { Follows (blob name.now) (store S.holds S.counts shelf.old)
-        (store S.holds S.counts shelf.new)
+    ensures bytes { Follows (blob name.now) (S.store shelf.old)
+        (S.store shelf.new)
         (seen (λ bytes. bytes.items) result) }
     ensures short { IfOk result (λ bytes. length bytes.items ≤ BLOB_LIMIT) }
 {
@@ -30,8 +30,8 @@ pub fn bytes_under<S: Shelf>(alloc: Global, shelf: &mut S, name: &str) -> Result
 /// One read of a blob, told as the refusal that it is.
 fn fetched<S: Shelf>(alloc: Global, shelf: &mut S, name: &str) -> Result<Vec<u8>, Refusal>
     requires { IsTrue (is_name name.now) }
-    ensures bytes { Reads name.now (store S.holds S.counts shelf.old)
-        (store S.holds S.counts shelf.new)
+    ensures bytes { Reads name.now (S.store shelf.old)
+        (S.store shelf.new)
         (seen (λ bytes. bytes.items) result) }
     ensures short { IfOk result (λ bytes. length bytes.items ≤ BLOB_LIMIT) }
 {
@@ -52,8 +52,8 @@ pub fn register_under<S: Shelf>(
     name: &str,
 ) -> Result<Register, Refusal>
     requires { IsTrue (is_name name.now) }
-    ensures { Follows (register_under name.now) (store S.holds S.counts shelf.old)
-        (store S.holds S.counts shelf.new) result }
+    ensures { Follows (register_under name.now) (S.store shelf.old)
+        (S.store shelf.new) result }
 {
     let bytes = bytes_under(alloc, shelf, name)?;
     register_of_bytes(alloc, bytes)

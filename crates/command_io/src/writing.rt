@@ -3,7 +3,8 @@
 ghost use Rattle.std.specs.Prelude.{◌≡◌, Ok, IsTrue};
 ghost use Rattle.text_terms.specs.Names.{is_name};
 ghost use Rattle.outcome_terms.specs.Reading.{Reading};
-ghost use Rattle.outcome_terms.specs.Stores.{Follows, IsWriting, Store, Writes, Writing, store};
+ghost use Rattle.outcome_terms.specs.Stores.{Follows, IsWriting, Writes, Writing};
+ghost use Rattle.records.specs.Stores.{Store};
 ghost use Rattle.outcome_terms.specs.Commands.{Write};
 ghost use Rattle.outcome_terms.specs.Outcome.{Performs};
 ghost use Rattle.command_io.specs.Answers.{left_text};
@@ -31,9 +32,9 @@ pub fn write_text<S: Shelf>(
 ) -> Result<Done, Refusal>
     requires { IsTrue (is_name out.now) }
     ensures { (reading : Reading Writing) (writing : Writing) (first : Store)
-        → Follows reading first (store S.holds S.counts shelf.old) (Ok writing)
+        → Follows reading first (S.store shelf.old) (Ok writing)
         → IsWriting writing text.items
-        → Performs (Write out.now reading) first (store S.holds S.counts shelf.new)
+        → Performs (Write out.now reading) first (S.store shelf.new)
         (left_text result) }
 {
     match written(alloc, shelf, out, text) {
@@ -45,8 +46,8 @@ pub fn write_text<S: Shelf>(
 /// One write of a text, told as the refusal that it is.
 fn written<S: Shelf>(alloc: Global, shelf: &mut S, out: &str, text: Vec<u8>) -> Result<(), Refusal>
     requires { IsTrue (is_name out.now) }
-    ensures { Writes out.now text.items (store S.holds S.counts shelf.old)
-        (store S.holds S.counts shelf.new) result }
+    ensures { Writes out.now text.items (S.store shelf.old)
+        (S.store shelf.new) result }
 {
     match shelf.write(alloc, out, text.as_slice()) {
         Ok(()) => Ok(()),

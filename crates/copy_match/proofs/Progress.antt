@@ -19,7 +19,8 @@ use Rattle.blob_digests.specs.declared.digest.Digest.{Digest}
 use Rattle.outcome_terms.specs.declared.refusal.Refusal.{Refusal}
 use Rattle.outcome_terms.specs.declared.refusal.Refusal.TheVariants as refusal
 use Rattle.outcome_terms.specs.Reading.{blob, each, Give}
-use Rattle.outcome_terms.specs.Stores.{Store, Reads, Follows, gave}
+use Rattle.outcome_terms.specs.Stores.{Reads, Follows, gave}
+use Rattle.records.specs.Stores.{Store}
 use Rattle.outcome_terms.specs.TitleCommand.{digest_under}
 use Rattle.outcome_terms.specs.TraceCommand.{segment_names, word_of_copy_under}
 use Rattle.outcome_terms.proofs.Following.{kept, over_told}
@@ -74,7 +75,7 @@ at_told : (P : Blobs → Type 0) (told : Option Blobs) (blobs : Blobs) → told 
 at_told P told blobs is h = subst (λ (o : Option Blobs). IfSome o P) is h
 
 pub one_read : (t : Title) (copy : Playlist) (r more : Reader) (i : ℕ) (name digest : List ℕ) (s now u : Store) → HasRead t copy r i s now → slice_get (segment_names copy) i ≡ Some name
-    → ReadsAs name now u digest → HasDigest now.told name digest → more.title ≡ r.title → ((digests : List (List ℕ)) → HasSeen r digests → HasSeen more (digests ++ digest ∷ []))
+    → ReadsAs name now u digest → HasDigest now u name digest → more.title ≡ r.title → ((digests : List (List ℕ)) → HasSeen r digests → HasSeen more (digests ++ digest ∷ []))
     → HasRead t copy more (i + 1) s u
 one_read t copy r more i name digest s now u so_far at reads is title sees =
     let longer : take (i + 1) (segment_names copy) ≡ take i (segment_names copy) ++ name ∷ [] = rw add-one (take_more (segment_names copy) i name at) in
@@ -112,14 +113,14 @@ stopped_follows t copy r i name e s now u so_far at unread =
     subst (λ (wanted : Refusal). Follows (word_of_copy_under t copy) s u (Err wanted)) (names_it copy i name e at)
     (stops (λ digests. Give (word_of_copy t digests)) (each_fails digest_under (segment_names copy) i name so_far.digests (read_refusal name e) at so_far.followed (not_read unread)))
 
-pub stopped_matches : (t : Title) (copy : Playlist) (r : Reader) (i : ℕ) (name : List ℕ) (e : FetchError) (s now : Store) → HasRead t copy r i s now → slice_get (segment_names copy) i ≡ Some name
-    → DigestGives now.told name (Err e) → Matches s.told t copy (Err (stopped_at i e))
-stopped_matches t copy r i name e s now so_far at gives = by e gives
+pub stopped_matches : (t : Title) (copy : Playlist) (r : Reader) (i : ℕ) (name : List ℕ) (e : FetchError) (s now u : Store) → HasRead t copy r i s now → slice_get (segment_names copy) i ≡ Some name
+    → DigestGives now u name (Err e) → Matches s.told t copy (Err (stopped_at i e))
+stopped_matches t copy r i name e s now u so_far at gives = by e gives
   where
     earlier : IfSome s.told (λ blobs. All (IsRead blobs) (take i (segment_names copy)))
     earlier = over_told s.told (λ blobs told. (at_told (λ b. HaveDigests b (take i (segment_names copy)) so_far.digests) s.told blobs told so_far.held).read)
 
-    by : (e : FetchError) → DigestGives now.told name (Err e) → Matches s.told t copy (Err (stopped_at i e))
+    by : (e : FetchError) → DigestGives now u name (Err e) → Matches s.told t copy (Err (stopped_at i e))
     by fetch.Missing h = record { name = name; stands = at; earlier = earlier; hindered = told_same _ s.told now.told (kept so_far.followed) h }
     by fetch.TooLong h = record { name = name; stands = at; earlier = earlier; hindered = told_same _ s.told now.told (kept so_far.followed) h }
     by fetch.Fault h = record { name = name; stands = at; earlier = earlier; hindered = over_told s.told (λ blobs told. tt) }

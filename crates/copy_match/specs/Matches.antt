@@ -7,13 +7,14 @@ use Rattle.shelf_terms.specs.Blobs.{Blobs, blob_at}
 use Rattle.playlist_terms.specs.Playlists.{Playlist}
 use Rattle.title_terms.specs.Titles.{Title}
 use Rattle.copy_terms.specs.Copies.{word_of_copy, digests_of}
-use Rattle.shelf_io.specs.Reads.{HoldsLonger}
+use Rattle.records.specs.Agreement.{HoldsLonger}
 use Rattle.shelf_io.specs.declared.errors.FetchError.{FetchError}
 use Rattle.shelf_io.specs.declared.errors.FetchError.TheVariants as fetch
 use Rattle.blob_digests.specs.declared.digest.Digest.{Digest}
 use Rattle.outcome_terms.specs.declared.refusal.Refusal.{Refusal}
 use Rattle.outcome_terms.specs.declared.refusal.Refusal.TheVariants as refusal
-use Rattle.outcome_terms.specs.Stores.{Store, Reads}
+use Rattle.outcome_terms.specs.Stores.{Reads}
+use Rattle.records.specs.Stores.{Store}
 use Rattle.outcome_terms.specs.TraceCommand.{segment_names}
 use Rattle.copy_match.specs.declared.error.MatchError.{MatchError}
 use Rattle.copy_match.specs.declared.error.MatchError.TheVariants.{Missing, Fault, TooLong, Memory}

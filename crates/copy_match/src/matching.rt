@@ -5,7 +5,7 @@ ghost use Rattle.text_terms.specs.Names.{is_name};
 ghost use Rattle.code_terms.specs.Words.{HasSymbolsBelow};
 ghost use Rattle.title_terms.specs.Designs.{places, symbols};
 ghost use Rattle.blob_digests.specs.Digests.{DigestGives};
-ghost use Rattle.outcome_terms.specs.Stores.{Follows, store};
+ghost use Rattle.outcome_terms.specs.Stores.{Follows};
 ghost use Rattle.copy_match.specs.Matches.{Matches, ReadsDigest, by_name, stopped_at};
 ghost use Rattle.outcome_terms.specs.TraceCommand.{word_of_copy_under};
 
@@ -28,10 +28,10 @@ pub fn match_copy<S: Shelf>(
     copy: &MediaList,
 ) -> Result<Word, MatchError>
     // Where the blobs are told, the word of all segments, or which one is the first that cannot be read.
-    ensures told { Matches (S.holds shelf.old) title.now copy.now result }
+    ensures told { Matches (S.store shelf.old).told title.now copy.now result }
     ensures reading { Follows (word_of_copy_under title.now copy.now)
-        (store S.holds S.counts shelf.old)
-        (store S.holds S.counts shelf.new) (by_name copy.now result) }
+        (S.store shelf.old)
+        (S.store shelf.new) (by_name copy.now result) }
     ensures places { IfOk result (λ word. length word ≡ places title.now.design) }
     ensures symbols { IfOk result (HasSymbolsBelow (symbols title.now.design)) }
 {
@@ -59,9 +59,9 @@ fn segment_digest<S: Shelf>(
     segment: &Segment,
 ) -> Result<Digest, FetchError>
     requires { IsTrue (is_name segment.now.uri) }
-    ensures digest { DigestGives (S.holds shelf.old) segment.now.uri result }
-    ensures reads { ReadsDigest segment.now.uri (store S.holds S.counts shelf.old)
-        (store S.holds S.counts shelf.new) result }
+    ensures digest { DigestGives (S.store shelf.old) (S.store shelf.new) segment.now.uri result }
+    ensures reads { ReadsDigest segment.now.uri (S.store shelf.old)
+        (S.store shelf.new) result }
 {
     digest_of(alloc, shelf, segment.uri().as_str())
 }

@@ -16,11 +16,13 @@ pub fn decoded_is_told()
 {}
 
 /// The definitions at small values that were worked out apart from them, over symbols of 4 bits with two coefficients: the
-/// word that three colluders made, at a third exactly; a word of two places with one symbol; and what the bounds come to.
+/// word that three colluders made, at a third exactly; a word of two places with one symbol; and what the bounds come to, that of
+/// the roots also with three coefficients.
 pub fn worked_examples()
     ensures three { decoded 4 2 three_colluders 3 ≡ 0 ∷ 1 ∷ 16 ∷ [] }
     ensures one { decoded 4 2 (Some 5 ∷ Some 5 ∷ []) 1 ≡ 5 ∷ [] }
     ensures nine_not_enough { not_enough 2 3 ≡ 9 }
     ensures roots { root_bound 10 2 3 ≡ 143650 }
+    ensures roots_of_three { root_bound 19 3 3 ≡ 1777248 }
     ensures products { decoding_bound 0 10 2 3 ≡ 143910 }
 {}

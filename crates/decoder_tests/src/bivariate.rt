@@ -3,11 +3,12 @@
 ghost use Rattle.std.specs.Prelude.{◌≡◌, ◌<◌};
 
 use bi_poly::BiPoly;
-use gf2m::{Field, Gf, Ledger, Steps};
+use gf2m::{Field, Gf};
 use std::alloc::Global;
 use std::marker::Brand;
 use std::process::Abort;
 use std::sync::ledger::Blank;
+use steps::{Ledger, ProductLedger, Products, Steps};
 use uni_poly::Poly;
 
 /// A term: the power of x, that of y, and the number of the coefficient.
@@ -159,7 +160,7 @@ fn list<F: Field>(alloc: Global, numbers: &[u8]) -> Option<Poly<F>> {
 }
 
 /// The numbers of the derivatives of these orders, all at one point.
-fn derives<F: Field, P: Ledger>(
+fn derives<F: Field, P: Products>(
     alloc: Global,
     terms: &[Term],
     point: (u8, u8),
@@ -177,7 +178,7 @@ fn derives<F: Field, P: Ledger>(
 }
 
 /// Whether Q(x, f(x)) has these coefficients.
-fn gives<F: Field, P: Ledger>(
+fn gives<F: Field, P: Products>(
     alloc: Global,
     terms: &[Term],
     f: &[u8],
@@ -190,7 +191,7 @@ fn gives<F: Field, P: Ledger>(
 }
 
 /// Whether Q(x, x y + g) is this power of x times these terms.
-fn shifts<F: Field, P: Ledger>(
+fn shifts<F: Field, P: Products>(
     alloc: Global,
     terms: &[Term],
     g: u8,
@@ -208,82 +209,86 @@ fn shifts<F: Field, P: Ledger>(
 }
 
 /// The known derivatives of two polynomials, in GF(16) and GF(256).
-fn known_derivatives<P: Ledger>(rt: &impl Abort, alloc: Global, blank: Blank)
+fn known_derivatives<P: Ledger>(rt: &impl Abort, host: &HostRuntime, blank: Blank)
     requires name { blank.name ≡ P.name }
     requires parts { blank.parts ≡ P.parts }
     requires some { 0 < P.parts }
 {
-    let mut prods = Steps::<P>::new(blank);
+    let alloc = host.alloc();
+    let mut prods = Steps::<ProductLedger<P>>::new(host, blank);
     let single = [(1, 0, 0), (0, 1, 1), (2, 1, 1)];
     assert!(rt;
-        derives::<Gf<4>, P>(alloc, &[(2, 1, 1)], (1, 5), &single, &mut prods) == Some(true)
+        derives::<Gf<4>, _>(alloc, &[(2, 1, 1)], (1, 5), &single, &mut prods) == Some(true)
     );
-    assert!(rt; derives::<Gf<4>, P>(alloc, FIRST, (3, 5), FIRST_IN_16, &mut prods) == Some(true));
-    assert!(rt; derives::<Gf<8>, P>(alloc, FIRST, (3, 5), FIRST_IN_256, &mut prods) == Some(true));
-    assert!(rt; derives::<Gf<4>, P>(alloc, SECOND, (6, 9), SECOND_IN_16, &mut prods) == Some(true));
+    assert!(rt; derives::<Gf<4>, _>(alloc, FIRST, (3, 5), FIRST_IN_16, &mut prods) == Some(true));
+    assert!(rt; derives::<Gf<8>, _>(alloc, FIRST, (3, 5), FIRST_IN_256, &mut prods) == Some(true));
+    assert!(rt; derives::<Gf<4>, _>(alloc, SECOND, (6, 9), SECOND_IN_16, &mut prods) == Some(true));
     assert!(rt;
-        derives::<Gf<8>, P>(alloc, SECOND, (6, 9), SECOND_IN_256, &mut prods) == Some(true)
+        derives::<Gf<8>, _>(alloc, SECOND, (6, 9), SECOND_IN_256, &mut prods) == Some(true)
     );
 }
 
 #[test]
 fn derives_at_mixed_orders(rt: HostRuntime) {
-    known_derivatives::<Brand>(&rt, rt.alloc(), Blank::new(1));
+    known_derivatives::<Brand>(&rt, &rt, Blank::new(1));
 }
 
 /// The known values at y = f(x), in GF(16) and GF(256).
-fn known_values<P: Ledger>(rt: &impl Abort, alloc: Global, blank: Blank)
+fn known_values<P: Ledger>(rt: &impl Abort, host: &HostRuntime, blank: Blank)
     requires name { blank.name ≡ P.name }
     requires parts { blank.parts ≡ P.parts }
     requires some { 0 < P.parts }
 {
-    let mut prods = Steps::<P>::new(blank);
+    let alloc = host.alloc();
+    let mut prods = Steps::<ProductLedger<P>>::new(host, blank);
     let sum = [(0, 1, 1), (1, 0, 1)];
     let first_in_16 = [11, 9, 11, 2, 5, 3, 1, 2, 15];
     let first_in_256 = [45, 9, 225, 2, 125, 105, 5, 164, 21];
     let second_in_16 = [0, 0, 6, 8, 14, 1, 11, 11, 13, 7, 1, 9, 6];
-    assert!(rt; gives::<Gf<4>, P>(alloc, &sum, &[0, 1], &[], &mut prods) == Some(true));
-    assert!(rt; gives::<Gf<4>, P>(alloc, FIRST, &[3, 7], &first_in_16, &mut prods) == Some(true));
-    assert!(rt; gives::<Gf<8>, P>(alloc, FIRST, &[3, 7], &first_in_256, &mut prods) == Some(true));
-    assert!(rt; gives::<Gf<4>, P>(alloc, SECOND, &[3, 7], &second_in_16, &mut prods) == Some(true));
-    assert!(rt; gives::<Gf<8>, P>(alloc, SECOND, &[], &[], &mut prods) == Some(true));
+    assert!(rt; gives::<Gf<4>, _>(alloc, &sum, &[0, 1], &[], &mut prods) == Some(true));
+    assert!(rt; gives::<Gf<4>, _>(alloc, FIRST, &[3, 7], &first_in_16, &mut prods) == Some(true));
+    assert!(rt; gives::<Gf<8>, _>(alloc, FIRST, &[3, 7], &first_in_256, &mut prods) == Some(true));
+    assert!(rt; gives::<Gf<4>, _>(alloc, SECOND, &[3, 7], &second_in_16, &mut prods) == Some(true));
+    assert!(rt; gives::<Gf<8>, _>(alloc, SECOND, &[], &[], &mut prods) == Some(true));
 }
 
 #[test]
 fn substitutes_polynomials(rt: HostRuntime) {
-    known_values::<Brand>(&rt, rt.alloc(), Blank::new(1));
+    known_values::<Brand>(&rt, &rt, Blank::new(1));
 }
 
 /// The known shifts, each divided by the greatest power of x, in GF(16) and GF(256).
-fn known_shifts<P: Ledger>(rt: &impl Abort, alloc: Global, blank: Blank)
+fn known_shifts<P: Ledger>(rt: &impl Abort, host: &HostRuntime, blank: Blank)
     requires name { blank.name ≡ P.name }
     requires parts { blank.parts ≡ P.parts }
     requires some { 0 < P.parts }
 {
-    let mut prods = Steps::<P>::new(blank);
+    let alloc = host.alloc();
+    let mut prods = Steps::<ProductLedger<P>>::new(host, blank);
     let line = [(0, 1, 1), (0, 0, 5)];
     let square = [(1, 2, 1), (1, 0, 2), (3, 1, 2)];
     let square_in_256 = [(1, 2, 1), (1, 0, 17), (3, 1, 2)];
     let root = [(0, 2, 1), (1, 1, 2), (0, 0, 10)];
-    assert!(rt; shifts::<Gf<4>, P>(alloc, &line, 5, 1, &[(0, 1, 1)], &mut prods) == Some(true));
-    assert!(rt; shifts::<Gf<4>, P>(alloc, &square, 5, 3, &root, &mut prods) == Some(true));
-    assert!(rt; shifts::<Gf<8>, P>(alloc, &square_in_256, 5, 3, &root, &mut prods) == Some(true));
-    assert!(rt; shifts::<Gf<4>, P>(alloc, FIRST, 5, 0, SHIFTED_IN_16, &mut prods) == Some(true));
-    assert!(rt; shifts::<Gf<8>, P>(alloc, FIRST, 5, 0, SHIFTED_IN_256, &mut prods) == Some(true));
+    assert!(rt; shifts::<Gf<4>, _>(alloc, &line, 5, 1, &[(0, 1, 1)], &mut prods) == Some(true));
+    assert!(rt; shifts::<Gf<4>, _>(alloc, &square, 5, 3, &root, &mut prods) == Some(true));
+    assert!(rt; shifts::<Gf<8>, _>(alloc, &square_in_256, 5, 3, &root, &mut prods) == Some(true));
+    assert!(rt; shifts::<Gf<4>, _>(alloc, FIRST, 5, 0, SHIFTED_IN_16, &mut prods) == Some(true));
+    assert!(rt; shifts::<Gf<8>, _>(alloc, FIRST, 5, 0, SHIFTED_IN_256, &mut prods) == Some(true));
 }
 
 #[test]
 fn shifts_and_divides_by_powers_of_x(rt: HostRuntime) {
-    known_shifts::<Brand>(&rt, rt.alloc(), Blank::new(1));
+    known_shifts::<Brand>(&rt, &rt, Blank::new(1));
 }
 
 /// The sum of the first polynomial and nine times the second.
-fn known_sum<P: Ledger>(alloc: Global, blank: Blank) -> Option<bool>
+fn known_sum<P: Ledger>(host: &HostRuntime, blank: Blank) -> Option<bool>
     requires name { blank.name ≡ P.name }
     requires parts { blank.parts ≡ P.parts }
     requires some { 0 < P.parts }
 {
-    let mut prods = Steps::<P>::new(blank);
+    let alloc = host.alloc();
+    let mut prods = Steps::<ProductLedger<P>>::new(host, blank);
     let mut sum = polynomial::<Gf<4>>(alloc, FIRST)?;
     let other = polynomial::<Gf<4>>(alloc, SECOND)?;
     sum.add_multiple(&other, Gf::<4>::of(9)?, &mut prods).ok()?;
@@ -292,7 +297,7 @@ fn known_sum<P: Ledger>(alloc: Global, blank: Blank) -> Option<bool>
 
 #[test]
 fn adds_a_multiple(rt: HostRuntime) {
-    assert!(&rt; known_sum::<Brand>(rt.alloc(), Blank::new(1)) == Some(true));
+    assert!(&rt; known_sum::<Brand>(&rt, Blank::new(1)) == Some(true));
 }
 
 /// The greatest power of x, that of y, and the greatest i + 12 j of the terms x^i y^j.

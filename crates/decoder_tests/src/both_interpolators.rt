@@ -3,7 +3,7 @@
 ghost use Rattle.std.specs.Prelude.{◌≡◌, ◌+◌, ◌*◌, ◌<◌, ◌≤◌, IfSome, length};
 
 use bi_poly::BiPoly;
-use gf2m::{Field, Gf, Ledger, Steps};
+use gf2m::{Field, Gf};
 use gs_koetter::Koetter;
 use gs_linear::Linear;
 use gs_params::{Interpolate, params};
@@ -11,6 +11,7 @@ use std::alloc::Global;
 use std::marker::Brand;
 use std::process::Abort;
 use std::sync::ledger::Blank;
+use steps::{Ledger, ProductLedger, Products, Steps};
 
 /// The first of the points (i, i^3 + 7 i), where i is counted modulo 32.
 fn points_of<F: Field>(alloc: Global, count: u32) -> Option<Vec<(F, F)>>
@@ -26,7 +27,7 @@ fn points_of<F: Field>(alloc: Global, count: u32) -> Option<Vec<(F, F)>>
 }
 
 /// Whether one polynomial is the other times an element that is not zero; both have only powers below e.
-fn are_multiples<F: Field, P: Ledger>(
+fn are_multiples<F: Field, P: Products>(
     q: &BiPoly<F>,
     other: &BiPoly<F>,
     e: u32,
@@ -53,7 +54,7 @@ fn are_multiples<F: Field, P: Ledger>(
 }
 
 /// Whether both interpolators find the same curve but for a factor.
-fn agree<F: Field, P: Ledger>(
+fn agree<F: Field, P: Products>(
     alloc: Global,
     k: u32,
     c: u32,
@@ -72,20 +73,21 @@ fn agree<F: Field, P: Ledger>(
 }
 
 /// For each of these sets of points the equations of the curve leave one solution but for a factor, as was computed apart.
-fn agree_on_all<P: Ledger>(rt: &impl Abort, alloc: Global, blank: Blank)
+fn agree_on_all<P: Ledger>(rt: &impl Abort, host: &HostRuntime, blank: Blank)
     requires name { blank.name ≡ P.name }
     requires parts { blank.parts ≡ P.parts }
     requires some { 0 < P.parts }
 {
-    let mut prods = Steps::<P>::new(blank);
-    assert!(rt; agree::<Gf<5>, P>(alloc, 2, 1, 5, &mut prods) == Some(true));
-    assert!(rt; agree::<Gf<5>, P>(alloc, 2, 2, 9, &mut prods) == Some(true));
-    assert!(rt; agree::<Gf<5>, P>(alloc, 3, 2, 15, &mut prods) == Some(true));
-    assert!(rt; agree::<Gf<5>, P>(alloc, 2, 4, 18, &mut prods) == Some(true));
-    assert!(rt; agree::<Gf<5>, P>(alloc, 5, 2, 30, &mut prods) == Some(true));
+    let alloc = host.alloc();
+    let mut prods = Steps::<ProductLedger<P>>::new(host, blank);
+    assert!(rt; agree::<Gf<5>, _>(alloc, 2, 1, 5, &mut prods) == Some(true));
+    assert!(rt; agree::<Gf<5>, _>(alloc, 2, 2, 9, &mut prods) == Some(true));
+    assert!(rt; agree::<Gf<5>, _>(alloc, 3, 2, 15, &mut prods) == Some(true));
+    assert!(rt; agree::<Gf<5>, _>(alloc, 2, 4, 18, &mut prods) == Some(true));
+    assert!(rt; agree::<Gf<5>, _>(alloc, 5, 2, 30, &mut prods) == Some(true));
 }
 
 #[test]
 fn one_curve_is_found_by_both(rt: HostRuntime) {
-    agree_on_all::<Brand>(&rt, rt.alloc(), Blank::new(1));
+    agree_on_all::<Brand>(&rt, &rt, Blank::new(1));
 }

@@ -2,12 +2,13 @@
 
 ghost use Rattle.std.specs.Prelude.{◌≡◌, ◌*◌, ◌^◌, ◌<◌, IfSome};
 
-use gf2m::{Elements, Field, Gf, Ledger, Steps};
+use gf2m::{Elements, Field, Gf};
 use rs_code::{Code, CodeError, Message, Word, WordError, WordFault};
 use std::alloc::Global;
 use std::marker::Brand;
 use std::process::Abort;
 use std::sync::ledger::Blank;
+use steps::{Ledger, ProductLedger, Products, Steps};
 
 const THREE_COLLUDERS: [Option<u8>; 10] = [
     Some(0),
@@ -89,7 +90,7 @@ fn message_of<F: Field>(alloc: Global, code: &Code<F>, numbers: &[u8]) -> Option
 }
 
 /// Whether these are the symbols of the message's codeword.
-fn has_codeword<F: Field, P: Ledger>(
+fn has_codeword<F: Field, P: Products>(
     alloc: Global,
     numbers: &[u8],
     slots: &[Option<u8>],
@@ -102,32 +103,33 @@ fn has_codeword<F: Field, P: Ledger>(
 }
 
 /// Codewords that were worked out apart.
-fn known_codewords<P: Ledger>(rt: &impl Abort, alloc: Global, blank: Blank)
+fn known_codewords<P: Ledger>(rt: &impl Abort, host: &HostRuntime, blank: Blank)
     requires name { blank.name ≡ P.name }
     requires parts { blank.parts ≡ P.parts }
     requires some { 0 < P.parts }
 {
-    let mut prods = Steps::<P>::new(blank);
+    let alloc = host.alloc();
+    let mut prods = Steps::<ProductLedger<P>>::new(host, blank);
     let coefs = [5, 7, 11];
     let of_4 = [5, 9, 1, 13, 4, 8, 0, 12].map(Some);
     let of_5 = [5, 9, 2, 14, 24, 20, 31, 19].map(Some);
     let of_6 = [5, 9, 39, 43, 47, 35, 13, 1].map(Some);
     let of_7 = [5, 9, 39, 43, 32, 44, 2, 14].map(Some);
     let of_8 = [5, 9, 39, 43, 169, 165, 139, 135].map(Some);
-    assert!(rt; has_codeword::<Gf<4>, P>(alloc, &coefs, &of_4, &mut prods) == Some(true));
-    assert!(rt; has_codeword::<Gf<5>, P>(alloc, &coefs, &of_5, &mut prods) == Some(true));
-    assert!(rt; has_codeword::<Gf<6>, P>(alloc, &coefs, &of_6, &mut prods) == Some(true));
-    assert!(rt; has_codeword::<Gf<7>, P>(alloc, &coefs, &of_7, &mut prods) == Some(true));
-    assert!(rt; has_codeword::<Gf<8>, P>(alloc, &coefs, &of_8, &mut prods) == Some(true));
+    assert!(rt; has_codeword::<Gf<4>, _>(alloc, &coefs, &of_4, &mut prods) == Some(true));
+    assert!(rt; has_codeword::<Gf<5>, _>(alloc, &coefs, &of_5, &mut prods) == Some(true));
+    assert!(rt; has_codeword::<Gf<6>, _>(alloc, &coefs, &of_6, &mut prods) == Some(true));
+    assert!(rt; has_codeword::<Gf<7>, _>(alloc, &coefs, &of_7, &mut prods) == Some(true));
+    assert!(rt; has_codeword::<Gf<8>, _>(alloc, &coefs, &of_8, &mut prods) == Some(true));
 }
 
 #[test]
 fn makes_codewords(rt: HostRuntime) {
-    known_codewords::<Brand>(&rt, rt.alloc(), Blank::new(1));
+    known_codewords::<Brand>(&rt, &rt, Blank::new(1));
 }
 
 /// Whether the message of these coefficients agrees with the colluders' word in just these places.
-fn has_places<P: Ledger>(
+fn has_places<P: Products>(
     alloc: Global,
     numbers: &[u8],
     places: &[u16],
@@ -145,12 +147,13 @@ fn has_places<P: Ledger>(
 }
 
 /// Agreeing places that were worked out apart.
-fn known_places<P: Ledger>(rt: &impl Abort, alloc: Global, blank: Blank)
+fn known_places<P: Ledger>(rt: &impl Abort, host: &HostRuntime, blank: Blank)
     requires name { blank.name ≡ P.name }
     requires parts { blank.parts ≡ P.parts }
     requires some { 0 < P.parts }
 {
-    let mut prods = Steps::<P>::new(blank);
+    let alloc = host.alloc();
+    let mut prods = Steps::<ProductLedger<P>>::new(host, blank);
     assert!(rt; has_places(alloc, &[0], &[0, 4, 5, 6], &mut prods) == Some(true));
     assert!(rt; has_places(alloc, &[1], &[1, 7, 8, 9], &mut prods) == Some(true));
     assert!(rt; has_places(alloc, &[0, 1], &[0, 1, 2, 3], &mut prods) == Some(true));
@@ -158,7 +161,7 @@ fn known_places<P: Ledger>(rt: &impl Abort, alloc: Global, blank: Blank)
 
 #[test]
 fn finds_agreeing_places(rt: HostRuntime) {
-    known_places::<Brand>(&rt, rt.alloc(), Blank::new(1));
+    known_places::<Brand>(&rt, &rt, Blank::new(1));
 }
 
 #[test]

@@ -3,7 +3,7 @@
 ghost use Rattle.std.specs.Prelude.{◌≡◌, ◌<◌, ◌≤◌, length};
 
 use bi_poly::BiPoly;
-use gf2m::{Field, Gf, Ledger, Steps};
+use gf2m::{Field, Gf};
 use gs_koetter::Koetter;
 use gs_linear::Linear;
 use gs_params::{Interpolate, params};
@@ -11,9 +11,10 @@ use std::alloc::Global;
 use std::marker::Brand;
 use std::process::Abort;
 use std::sync::ledger::Blank;
+use steps::{Ledger, ProductLedger, Products, Steps};
 
 /// The curve for codes of dimension k and coalitions of c.
-fn curve_of<F: Field, I: Interpolate, P: Ledger>(
+fn curve_of<F: Field, I: Interpolate, P: Products>(
     alloc: Global,
     by: &I,
     k: u32,
@@ -54,7 +55,7 @@ fn points_of_zero<F: Field>(alloc: Global, count: u8) -> Option<Vec<(F, F)>> {
 }
 
 /// Whether all derivatives of an order below s are zero at all points.
-fn vanishes<F: Field, P: Ledger>(
+fn vanishes<F: Field, P: Products>(
     q: &BiPoly<F>,
     points: &[(F, F)],
     s: usize,
@@ -73,7 +74,7 @@ fn vanishes<F: Field, P: Ledger>(
 }
 
 /// Whether the curve through two points with the second coordinate 5 is a multiple of y + 5.
-fn meets_a_line<F: Field, I: Interpolate, P: Ledger>(
+fn meets_a_line<F: Field, I: Interpolate, P: Products>(
     alloc: Global,
     by: &I,
     prods: &mut Steps<P>,
@@ -88,7 +89,7 @@ fn meets_a_line<F: Field, I: Interpolate, P: Ledger>(
 }
 
 /// Whether the curve through these points is zero at each with multiplicity s, and weighs less than e.
-fn meets<F: Field, I: Interpolate, P: Ledger>(
+fn meets<F: Field, I: Interpolate, P: Products>(
     alloc: Global,
     by: &I,
     k: u32,
@@ -107,13 +108,14 @@ fn meets<F: Field, I: Interpolate, P: Ledger>(
 }
 
 /// Finds the curves of the table, and compares each.
-fn finds<I: Interpolate, P: Ledger>(rt: &impl Abort, alloc: Global, by: &I, blank: Blank)
+fn finds<I: Interpolate, P: Ledger>(rt: &impl Abort, host: &HostRuntime, by: &I, blank: Blank)
     requires name { blank.name ≡ P.name }
     requires parts { blank.parts ≡ P.parts }
     requires some { 0 < P.parts }
 {
-    let mut prods = Steps::<P>::new(blank);
-    assert!(rt; meets_a_line::<Gf<4>, I, P>(alloc, by, &mut prods) == Some(true));
+    let alloc = host.alloc();
+    let mut prods = Steps::<ProductLedger<P>>::new(host, blank);
+    assert!(rt; meets_a_line::<Gf<4>, I, _>(alloc, by, &mut prods) == Some(true));
     let many = points_of::<Gf<8>>(alloc, 200, 200).unwrap_or(Vec::new(alloc));
     assert!(rt; meets(alloc, by, 5, 3, &many, 1, 39, &mut prods) == Some(true));
     let shared = points_of::<Gf<5>>(alloc, 30, 15).unwrap_or(Vec::new(alloc));
@@ -124,10 +126,10 @@ fn finds<I: Interpolate, P: Ledger>(rt: &impl Abort, alloc: Global, by: &I, blan
 
 #[test]
 fn finds_curves_by_algebra(rt: HostRuntime) {
-    finds::<Linear, Brand>(&rt, rt.alloc(), &Linear, Blank::new(1));
+    finds::<Linear, Brand>(&rt, &rt, &Linear, Blank::new(1));
 }
 
 #[test]
 fn finds_curves_by_steps(rt: HostRuntime) {
-    finds::<Koetter, Brand>(&rt, rt.alloc(), &Koetter, Blank::new(1));
+    finds::<Koetter, Brand>(&rt, &rt, &Koetter, Blank::new(1));
 }

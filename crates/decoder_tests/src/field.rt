@@ -2,21 +2,22 @@
 
 ghost use Rattle.std.specs.Prelude.{◌≡◌, ◌<◌};
 
-use gf2m::{Field, Gf, Ledger, Steps};
+use gf2m::{Field, Gf};
 use std::alloc::Global;
 use std::marker::Brand;
 use std::process::Abort;
 use std::sync::ledger::Blank;
+use steps::{Ledger, ProductLedger, Products, Steps};
 
 /// The product of two elements, by their numbers.
-fn times<F: Field, P: Ledger>(x: u8, y: u8, prods: &mut Steps<P>) -> Option<u8> {
+fn times<F: Field, P: Products>(x: u8, y: u8, prods: &mut Steps<P>) -> Option<u8> {
     let x = F::of(x)?;
     let y = F::of(y)?;
     Some(x.mul(y, prods).to())
 }
 
 /// The inverse of an element, by its number.
-fn inverse<F: Field, P: Ledger>(x: u8, prods: &mut Steps<P>) -> Option<u8> {
+fn inverse<F: Field, P: Products>(x: u8, prods: &mut Steps<P>) -> Option<u8> {
     let inverse = F::of(x)?.inv(prods)?;
     Some(inverse.to())
 }
@@ -29,48 +30,48 @@ fn plus<F: Field>(x: u8, y: u8) -> Option<u8> {
 }
 
 /// Products that were worked out apart.
-fn known_products<P: Ledger>(rt: &impl Abort, blank: Blank)
+fn known_products<P: Ledger>(rt: &impl Abort, host: &HostRuntime, blank: Blank)
     requires name { blank.name ≡ P.name }
     requires parts { blank.parts ≡ P.parts }
     requires some { 0 < P.parts }
 {
-    let mut prods = Steps::<P>::new(blank);
+    let mut prods = Steps::<ProductLedger<P>>::new(host, blank);
     let products = [
-        times::<Gf<4>, P>(2, 9, &mut prods),
-        times::<Gf<4>, P>(7, 7, &mut prods),
-        times::<Gf<5>, P>(21, 4, &mut prods),
-        times::<Gf<8>, P>(128, 128, &mut prods),
-        times::<Gf<8>, P>(2, 128, &mut prods),
+        times::<Gf<4>, _>(2, 9, &mut prods),
+        times::<Gf<4>, _>(7, 7, &mut prods),
+        times::<Gf<5>, _>(21, 4, &mut prods),
+        times::<Gf<8>, _>(128, 128, &mut prods),
+        times::<Gf<8>, _>(2, 128, &mut prods),
     ];
     assert!(rt; products == [Some(1), Some(6), Some(30), Some(19), Some(29)]);
 }
 
 #[test]
 fn multiplies(rt: HostRuntime) {
-    known_products::<Brand>(&rt, Blank::new(1));
+    known_products::<Brand>(&rt, &rt, Blank::new(1));
 }
 
 /// Inverses that were worked out apart.
-fn known_inverses<P: Ledger>(rt: &impl Abort, blank: Blank)
+fn known_inverses<P: Ledger>(rt: &impl Abort, host: &HostRuntime, blank: Blank)
     requires name { blank.name ≡ P.name }
     requires parts { blank.parts ≡ P.parts }
     requires some { 0 < P.parts }
 {
-    let mut prods = Steps::<P>::new(blank);
+    let mut prods = Steps::<ProductLedger<P>>::new(host, blank);
     let inverses = [
-        inverse::<Gf<4>, P>(0, &mut prods),
-        inverse::<Gf<4>, P>(2, &mut prods),
-        inverse::<Gf<5>, P>(2, &mut prods),
-        inverse::<Gf<6>, P>(2, &mut prods),
-        inverse::<Gf<7>, P>(2, &mut prods),
-        inverse::<Gf<8>, P>(2, &mut prods),
+        inverse::<Gf<4>, _>(0, &mut prods),
+        inverse::<Gf<4>, _>(2, &mut prods),
+        inverse::<Gf<5>, _>(2, &mut prods),
+        inverse::<Gf<6>, _>(2, &mut prods),
+        inverse::<Gf<7>, _>(2, &mut prods),
+        inverse::<Gf<8>, _>(2, &mut prods),
     ];
     assert!(rt; inverses == [None, Some(9), Some(18), Some(33), Some(68), Some(142)]);
 }
 
 #[test]
 fn inverts(rt: HostRuntime) {
-    known_inverses::<Brand>(&rt, Blank::new(1));
+    known_inverses::<Brand>(&rt, &rt, Blank::new(1));
 }
 
 /// The elements of these numbers.
@@ -83,7 +84,7 @@ fn elements<F: Field>(alloc: Global, numbers: &[u8]) -> Option<Vec<F>> {
 }
 
 /// Whether the target's numbers are `want` after `factor` times each element of the source was added.
-fn adds_up_to<F: Field, P: Ledger>(
+fn adds_up_to<F: Field, P: Products>(
     alloc: Global,
     target: &[u8],
     source: &[u8],
@@ -103,14 +104,15 @@ fn adds_up_to<F: Field, P: Ledger>(
 }
 
 /// Multiples of slices that were worked out apart.
-fn known_slices<P: Ledger>(rt: &impl Abort, alloc: Global, blank: Blank)
+fn known_slices<P: Ledger>(rt: &impl Abort, host: &HostRuntime, blank: Blank)
     requires name { blank.name ≡ P.name }
     requires parts { blank.parts ≡ P.parts }
     requires some { 0 < P.parts }
 {
-    let mut prods = Steps::<P>::new(blank);
+    let alloc = host.alloc();
+    let mut prods = Steps::<ProductLedger<P>>::new(host, blank);
     let known = [
-        adds_up_to::<Gf<4>, P>(
+        adds_up_to::<Gf<4>, _>(
             alloc,
             &[0, 1, 5, 15, 7],
             &[3, 0, 15, 14, 9],
@@ -118,7 +120,7 @@ fn known_slices<P: Ledger>(rt: &impl Abort, alloc: Global, blank: Blank)
             13,
             &mut prods,
         ),
-        adds_up_to::<Gf<5>, P>(
+        adds_up_to::<Gf<5>, _>(
             alloc,
             &[0, 1, 5, 31, 7],
             &[3, 0, 31, 30, 9],
@@ -126,7 +128,7 @@ fn known_slices<P: Ledger>(rt: &impl Abort, alloc: Global, blank: Blank)
             29,
             &mut prods,
         ),
-        adds_up_to::<Gf<6>, P>(
+        adds_up_to::<Gf<6>, _>(
             alloc,
             &[0, 1, 5, 63, 7],
             &[3, 0, 63, 62, 9],
@@ -134,7 +136,7 @@ fn known_slices<P: Ledger>(rt: &impl Abort, alloc: Global, blank: Blank)
             61,
             &mut prods,
         ),
-        adds_up_to::<Gf<7>, P>(
+        adds_up_to::<Gf<7>, _>(
             alloc,
             &[0, 1, 5, 127, 7],
             &[3, 0, 127, 126, 9],
@@ -142,7 +144,7 @@ fn known_slices<P: Ledger>(rt: &impl Abort, alloc: Global, blank: Blank)
             125,
             &mut prods,
         ),
-        adds_up_to::<Gf<8>, P>(
+        adds_up_to::<Gf<8>, _>(
             alloc,
             &[0, 1, 5, 255, 7],
             &[3, 0, 255, 254, 9],
@@ -156,7 +158,7 @@ fn known_slices<P: Ledger>(rt: &impl Abort, alloc: Global, blank: Blank)
 
 #[test]
 fn adds_multiples(rt: HostRuntime) {
-    known_slices::<Brand>(&rt, rt.alloc(), Blank::new(1));
+    known_slices::<Brand>(&rt, &rt, Blank::new(1));
 }
 
 /// The number of the element of a number.

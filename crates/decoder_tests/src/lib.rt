@@ -13,6 +13,8 @@ mod curves;
 #[cfg(test)]
 mod field;
 #[cfg(test)]
+mod pairs;
+#[cfg(test)]
 mod parameters;
 #[cfg(test)]
 mod polynomials;

@@ -3,12 +3,13 @@
 ghost use Rattle.std.specs.Prelude.{◌≡◌, ◌<◌};
 
 use bi_poly::BiPoly;
-use gf2m::{Field, Gf, Ledger, Steps};
+use gf2m::{Field, Gf};
 use rr_roots::poly_roots;
 use std::alloc::Global;
 use std::marker::Brand;
 use std::process::Abort;
 use std::sync::ledger::Blank;
+use steps::{Ledger, ProductLedger, Products, Steps};
 use uni_poly::Poly;
 
 /// A term: the power of x, that of y, and the number of the coefficient.
@@ -271,7 +272,7 @@ fn has_numbers<F: Field>(root: &Poly<F>, numbers: &[u8]) -> bool {
 }
 
 /// Whether these are the curve's y-roots, in this order.
-fn has_roots<F: Field, P: Ledger>(
+fn has_roots<F: Field, P: Products>(
     alloc: Global,
     curve: &Curve,
     prods: &mut Steps<P>,
@@ -293,21 +294,22 @@ fn has_roots<F: Field, P: Ledger>(
 }
 
 /// Roots that were worked out apart.
-fn known_roots<P: Ledger>(rt: &impl Abort, alloc: Global, blank: Blank)
+fn known_roots<P: Ledger>(rt: &impl Abort, host: &HostRuntime, blank: Blank)
     requires name { blank.name ≡ P.name }
     requires parts { blank.parts ≡ P.parts }
     requires some { 0 < P.parts }
 {
-    let mut prods = Steps::<P>::new(blank);
+    let alloc = host.alloc();
+    let mut prods = Steps::<ProductLedger<P>>::new(host, blank);
     for curve in IN_16 {
-        assert!(rt; has_roots::<Gf<4>, P>(alloc, curve, &mut prods) == Some(true));
+        assert!(rt; has_roots::<Gf<4>, _>(alloc, curve, &mut prods) == Some(true));
     }
     for curve in IN_256 {
-        assert!(rt; has_roots::<Gf<8>, P>(alloc, curve, &mut prods) == Some(true));
+        assert!(rt; has_roots::<Gf<8>, _>(alloc, curve, &mut prods) == Some(true));
     }
 }
 
 #[test]
 fn finds_all_roots_in_order(rt: HostRuntime) {
-    known_roots::<Brand>(&rt, rt.alloc(), Blank::new(1));
+    known_roots::<Brand>(&rt, &rt, Blank::new(1));
 }

@@ -11,7 +11,7 @@ use std::marker::Brand;
 use std::process::Abort;
 use std::sync::ledger::Blank;
 use std::test::Fail;
-use steps::{Ledger, Steps};
+use steps::{Ledger, LookLedger, Steps};
 
 const TWENTY: &[u8] =
     b"register 1\nm 4\nk 2\na 1\nb 0\nlic0\nlic1\nlic2\nlic3\nlic4\nlic5\nlic6\nlic7\nlic8\nlic9\nlic10\nlic11\nlic12\nlic13\nlic14\nlic15\nlic16\nlic17\nlic18\nlic19\n";
@@ -23,12 +23,13 @@ const THEN: &[u8] =
     b"register 2\nm 4\nk 2\na 1\nb 0\nactive lic0\nwithdrawn lic1\nwithdrawn lic2\nactive lic3\n";
 
 /// Twenty licensees whose messages are their serials.
-fn reads_and_looks<Q: Ledger>(rt: &impl Abort, alloc: Global, blank: Blank) -> Result<(), Fail>
+fn reads_and_looks<Q: Ledger>(rt: &impl Abort, host: &HostRuntime, blank: Blank) -> Result<(), Fail>
     requires name { blank.name ≡ Q.name }
     requires parts { blank.parts ≡ Q.parts }
     requires some { 0 < Q.parts }
 {
-    let mut looks = Steps::<Q>::new(blank);
+    let alloc = host.alloc();
+    let mut looks = Steps::<LookLedger<Q>>::new(host, blank);
     let register = Register::read(alloc, TWENTY)?;
     assert_eq!(rt;
         (register.bits(), register.dimension(), register.len()),
@@ -48,16 +49,17 @@ fn reads_and_looks<Q: Ledger>(rt: &impl Abort, alloc: Global, blank: Blank) -> R
 
 #[test]
 fn reads_the_older_text(rt: HostRuntime) -> Result<(), Fail> {
-    reads_and_looks::<Brand>(&rt, rt.alloc(), Blank::new(1))
+    reads_and_looks::<Brand>(&rt, &rt, Blank::new(1))
 }
 
 /// Four licensees, of whom the second is withdrawn at first, and then the third.
-fn withdraws<Q: Ledger>(rt: &impl Abort, alloc: Global, blank: Blank) -> Result<(), Fail>
+fn withdraws<Q: Ledger>(rt: &impl Abort, host: &HostRuntime, blank: Blank) -> Result<(), Fail>
     requires name { blank.name ≡ Q.name }
     requires parts { blank.parts ≡ Q.parts }
     requires some { 0 < Q.parts }
 {
-    let mut looks = Steps::<Q>::new(blank);
+    let alloc = host.alloc();
+    let mut looks = Steps::<LookLedger<Q>>::new(host, blank);
     let mut register = Register::read(alloc, FOUR)?;
     assert!(rt; register.write(&mut looks)?.as_slice() == FOUR);
     assert_eq!(rt;
@@ -76,16 +78,17 @@ fn withdraws<Q: Ledger>(rt: &impl Abort, alloc: Global, blank: Blank) -> Result<
 
 #[test]
 fn reads_what_it_writes(rt: HostRuntime) -> Result<(), Fail> {
-    withdraws::<Brand>(&rt, rt.alloc(), Blank::new(1))
+    withdraws::<Brand>(&rt, &rt, Blank::new(1))
 }
 
 /// The message of serial 7 is 12345 times 7 and 678, taken by 2^15.
-fn gives_messages<Q: Ledger>(rt: &impl Abort, alloc: Global, blank: Blank) -> Result<(), Fail>
+fn gives_messages<Q: Ledger>(rt: &impl Abort, host: &HostRuntime, blank: Blank) -> Result<(), Fail>
     requires name { blank.name ≡ Q.name }
     requires parts { blank.parts ≡ Q.parts }
     requires some { 0 < Q.parts }
 {
-    let mut looks = Steps::<Q>::new(blank);
+    let alloc = host.alloc();
+    let mut looks = Steps::<LookLedger<Q>>::new(host, blank);
     let mut register = Register::new(alloc, 5, 3, 12345, 678)?;
     for name in ["a", "b", "c", "d", "e", "f", "g", "h"] {
         register.enrol(name)?;
@@ -97,7 +100,7 @@ fn gives_messages<Q: Ledger>(rt: &impl Abort, alloc: Global, blank: Blank) -> Re
 
 #[test]
 fn spreads_the_messages(rt: HostRuntime) -> Result<(), Fail> {
-    gives_messages::<Brand>(&rt, rt.alloc(), Blank::new(1))
+    gives_messages::<Brand>(&rt, &rt, Blank::new(1))
 }
 
 #[test]

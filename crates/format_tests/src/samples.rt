@@ -9,11 +9,11 @@ use std::marker::Brand;
 use std::process::Abort;
 use std::sync::ledger::Blank;
 use std::test::Fail;
-use steps::{Ledger, Steps};
+use steps::{Ledger, LookLedger, Looks, ProductLedger, Products, Steps};
 
 fn lines<P: Ledger, Q: Ledger>(
     rt: &impl Abort,
-    alloc: Global,
+    host: &HostRuntime,
     prods: Blank,
     looks: Blank,
 ) -> Result<(), Fail>
@@ -24,8 +24,9 @@ fn lines<P: Ledger, Q: Ledger>(
     requires looks_parts { looks.parts ≡ Q.parts }
     requires looks_some { 0 < Q.parts }
 {
-    let mut prods = Steps::<P>::new(prods);
-    let mut looks = Steps::<Q>::new(looks);
+    let alloc = host.alloc();
+    let mut prods = Steps::<ProductLedger<P>>::new(host, prods);
+    let mut looks = Steps::<LookLedger<Q>>::new(host, looks);
     let seventh = line(alloc, 7, &mut prods, &mut looks)?;
     assert!(rt;
         seventh.as_slice()
@@ -45,7 +46,7 @@ fn lines<P: Ledger, Q: Ledger>(
 }
 
 /// The line of a number, by curves that are built point by point.
-fn line<P: Ledger, Q: Ledger>(
+fn line<P: Products, Q: Looks>(
     alloc: Global,
     number: u64,
     prods: &mut Steps<P>,
@@ -60,5 +61,5 @@ fn line<P: Ledger, Q: Ledger>(
 
 #[test]
 fn lines_that_were_worked_out_apart(rt: HostRuntime) -> Result<(), Fail> {
-    lines::<Brand, Brand>(&rt, rt.alloc(), Blank::new(1), Blank::new(1))
+    lines::<Brand, Brand>(&rt, &rt, Blank::new(1), Blank::new(1))
 }

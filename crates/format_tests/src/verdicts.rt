@@ -12,7 +12,7 @@ use std::alloc::Global;
 use std::marker::Brand;
 use std::sync::ledger::Blank;
 use std::test::Fail;
-use steps::{Ledger, Steps};
+use steps::{Ledger, LookLedger, ProductLedger, Steps};
 
 /// The register with one more licensee.
 fn enrolled(mut register: Register, name: &str) -> Result<Register, Memory>
@@ -38,7 +38,7 @@ fn pair(alloc: Global) -> Result<Register, Memory>
 
 /// Both places are the second licensee's, who is in the list with these places, or is not in it.
 fn verdict<P: Ledger, Q: Ledger>(
-    alloc: Global,
+    host: &HostRuntime,
     places: Option<&[u16]>,
     prods: Blank,
     looks: Blank,
@@ -50,6 +50,7 @@ fn verdict<P: Ledger, Q: Ledger>(
     requires looks_parts { looks.parts ≡ Q.parts }
     requires looks_some { 0 < Q.parts }
 {
+    let alloc = host.alloc();
     let mut accused = Vec::new(alloc);
     if let Some(places) = places {
         accused.push(Accused {
@@ -66,19 +67,19 @@ fn verdict<P: Ledger, Q: Ledger>(
     let register = pair(alloc)?;
     let word = Word::of(alloc, &[Some(1), Some(1)])?;
     let code = Code::<Gf<4>>::new(2, 2).unwrap();
-    let mut prods = Steps::<P>::new(prods);
-    let mut looks = Steps::<Q>::new(looks);
+    let mut prods = Steps::<ProductLedger<P>>::new(host, prods);
+    let mut looks = Steps::<LookLedger<Q>>::new(host, looks);
     Ok(check(&findings, &register, &code, &word, &mut prods, &mut looks))
 }
 
 #[test]
 fn lists_are_judged(rt: HostRuntime) -> Result<(), Fail> {
     let alloc = rt.alloc();
-    let right = verdict::<Brand, Brand>(alloc, Some(&[0, 1]), Blank::new(1), Blank::new(1))?;
+    let right = verdict::<Brand, Brand>(&rt, Some(&[0, 1]), Blank::new(1), Blank::new(1))?;
     assert_eq!(rt; right, Verdict::Right);
-    let wrong = verdict::<Brand, Brand>(alloc, Some(&[0]), Blank::new(1), Blank::new(1))?;
+    let wrong = verdict::<Brand, Brand>(&rt, Some(&[0]), Blank::new(1), Blank::new(1))?;
     assert_eq!(rt; wrong, Verdict::WrongPlaces(0));
-    let missing = verdict::<Brand, Brand>(alloc, None, Blank::new(1), Blank::new(1))?;
+    let missing = verdict::<Brand, Brand>(&rt, None, Blank::new(1), Blank::new(1))?;
     assert_eq!(rt; missing, Verdict::Absent(1));
     Ok(())
 }

@@ -18,7 +18,7 @@ ghost use Rattle.std.specs.Simd.Lanes.{zip2};
 ghost use Rattle.algebra.specs.Ring.{IsField, Ring};
 ghost use Rattle.gf_terms.specs.Arithmetic.{product};
 
-use steps::{Ledger, Steps};
+use steps::{Products, Steps};
 
 /// A field with 2^BITS elements, each of which is shown as a number below 2^BITS.
 ///
@@ -60,18 +60,18 @@ pub trait Field: Copy + Eq {
         ensures { result ≡ ring.plus self other };
 
     /// The product.
-    fn mul<P: Ledger>(self, other: Self, prods: &mut Steps<P>) -> Self
+    fn mul<P: Products>(self, other: Self, prods: &mut Steps<P>) -> Self
         ensures value { result ≡ ring.times self other }
         ensures ticks { prods.new ≡ prods.old + 1 };
 
     /// What gives 1 when it is multiplied by this element; none for 0.
-    fn inv<P: Ledger>(self, prods: &mut Steps<P>) -> Option<Self>
+    fn inv<P: Products>(self, prods: &mut Steps<P>) -> Option<Self>
         ensures none { IsNone result ↔ (self ≡ ring.nil) }
         ensures some { IfSome result (λ x. ring.times self x ≡ ring.unit) }
         ensures ticks { prods.new ≡ prods.old + 1 };
 
     /// Adds `factor` times each element of `source` to the element of `target` at the same place: as many products as elements.
-    fn add_multiple<P: Ledger>(
+    fn add_multiple<P: Products>(
         target: &mut [Self],
         source: &[Self],
         factor: Self,

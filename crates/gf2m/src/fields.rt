@@ -3,7 +3,7 @@
 use crate::field::Field;
 use crate::gf::Gf;
 use crate::{operations, slices};
-use steps::{Ledger, Steps};
+use steps::{Products, Steps};
 
 impl Field for Gf<4> {
     ghost use Rattle.std.proofs.Common.{refl, lit≤, eqb-true, eq-eqb};
@@ -41,15 +41,15 @@ impl Field for Gf<4> {
         operations::sum(self, other)
     }
 
-    fn mul<P: Ledger>(self, other: Self, prods: &mut Steps<P>) -> Self {
+    fn mul<P: Products>(self, other: Self, prods: &mut Steps<P>) -> Self {
         operations::product(self, other, prods)
     }
 
-    fn inv<P: Ledger>(self, prods: &mut Steps<P>) -> Option<Self> {
+    fn inv<P: Products>(self, prods: &mut Steps<P>) -> Option<Self> {
         operations::inverse(self, prods)
     }
 
-    fn add_multiple<P: Ledger>(
+    fn add_multiple<P: Products>(
         target: &mut [Self],
         source: &[Self],
         factor: Self,
@@ -119,15 +119,15 @@ impl Field for Gf<5> {
         operations::sum(self, other)
     }
 
-    fn mul<P: Ledger>(self, other: Self, prods: &mut Steps<P>) -> Self {
+    fn mul<P: Products>(self, other: Self, prods: &mut Steps<P>) -> Self {
         operations::product(self, other, prods)
     }
 
-    fn inv<P: Ledger>(self, prods: &mut Steps<P>) -> Option<Self> {
+    fn inv<P: Products>(self, prods: &mut Steps<P>) -> Option<Self> {
         operations::inverse(self, prods)
     }
 
-    fn add_multiple<P: Ledger>(
+    fn add_multiple<P: Products>(
         target: &mut [Self],
         source: &[Self],
         factor: Self,
@@ -197,15 +197,15 @@ impl Field for Gf<6> {
         operations::sum(self, other)
     }
 
-    fn mul<P: Ledger>(self, other: Self, prods: &mut Steps<P>) -> Self {
+    fn mul<P: Products>(self, other: Self, prods: &mut Steps<P>) -> Self {
         operations::product(self, other, prods)
     }
 
-    fn inv<P: Ledger>(self, prods: &mut Steps<P>) -> Option<Self> {
+    fn inv<P: Products>(self, prods: &mut Steps<P>) -> Option<Self> {
         operations::inverse(self, prods)
     }
 
-    fn add_multiple<P: Ledger>(
+    fn add_multiple<P: Products>(
         target: &mut [Self],
         source: &[Self],
         factor: Self,
@@ -275,15 +275,15 @@ impl Field for Gf<7> {
         operations::sum(self, other)
     }
 
-    fn mul<P: Ledger>(self, other: Self, prods: &mut Steps<P>) -> Self {
+    fn mul<P: Products>(self, other: Self, prods: &mut Steps<P>) -> Self {
         operations::product(self, other, prods)
     }
 
-    fn inv<P: Ledger>(self, prods: &mut Steps<P>) -> Option<Self> {
+    fn inv<P: Products>(self, prods: &mut Steps<P>) -> Option<Self> {
         operations::inverse(self, prods)
     }
 
-    fn add_multiple<P: Ledger>(
+    fn add_multiple<P: Products>(
         target: &mut [Self],
         source: &[Self],
         factor: Self,
@@ -353,15 +353,15 @@ impl Field for Gf<8> {
         operations::sum(self, other)
     }
 
-    fn mul<P: Ledger>(self, other: Self, prods: &mut Steps<P>) -> Self {
+    fn mul<P: Products>(self, other: Self, prods: &mut Steps<P>) -> Self {
         operations::product(self, other, prods)
     }
 
-    fn inv<P: Ledger>(self, prods: &mut Steps<P>) -> Option<Self> {
+    fn inv<P: Products>(self, prods: &mut Steps<P>) -> Option<Self> {
         operations::inverse(self, prods)
     }
 
-    fn add_multiple<P: Ledger>(
+    fn add_multiple<P: Products>(
         target: &mut [Self],
         source: &[Self],
         factor: Self,

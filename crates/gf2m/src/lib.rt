@@ -12,7 +12,7 @@ mod tables;
 pub use field::Field;
 pub use gf::Gf;
 pub use lists::Items;
-pub use steps::{Ledger, Steps};
+pub use steps::{Products, Steps};
 
 /// A list of elements of the field `F`.
 pub type Elements<F> = Items<F>;

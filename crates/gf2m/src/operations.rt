@@ -15,7 +15,7 @@ ghost use Rattle.gf2m.specs.Elements.{nil, plus, times, unit};
 
 use crate::arithmetic::{inverse_of, product_of};
 use crate::gf::Gf;
-use steps::{Ledger, Steps};
+use steps::{Products, Steps};
 
 /// The element 0.
 pub fn zero<const M: u32>() -> Gf<M>
@@ -59,7 +59,7 @@ pub fn sum<const M: u32>(x: Gf<M>, y: Gf<M>) -> Gf<M>
 }
 
 /// The product of two elements, which counts as one.
-pub fn product<const M: u32, P: Ledger>(x: Gf<M>, y: Gf<M>, prods: &mut Steps<P>) -> Gf<M>
+pub fn product<const M: u32, P: Products>(x: Gf<M>, y: Gf<M>, prods: &mut Steps<P>) -> Gf<M>
     requires low { 4 ≤ M }
     requires high { M ≤ 8 }
     ensures value { (low : 4 ≤ M) (high : M ≤ 8) → result ≡ times M low high x.entry y.entry }
@@ -72,7 +72,7 @@ pub fn product<const M: u32, P: Ledger>(x: Gf<M>, y: Gf<M>, prods: &mut Steps<P>
 }
 
 /// The inverse of an element, which counts as one product; none for 0.
-pub fn inverse<const M: u32, P: Ledger>(x: Gf<M>, prods: &mut Steps<P>) -> Option<Gf<M>>
+pub fn inverse<const M: u32, P: Products>(x: Gf<M>, prods: &mut Steps<P>) -> Option<Gf<M>>
     requires low { 4 ≤ M }
     requires high { M ≤ 8 }
     ensures none { (low : 4 ≤ M) (high : M ≤ 8) → IsNone result ↔ (x.entry ≡ nil M low high) }

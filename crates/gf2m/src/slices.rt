@@ -27,7 +27,7 @@ ghost use Rattle.gf2m.specs.declared.gf.Gf.{Gf};
 use crate::arithmetic::product_of;
 use crate::gf::Gf;
 use std::simd::prelude::*;
-use steps::{Ledger, Steps};
+use steps::{Products, Steps};
 
 /// The products of a factor with the numbers below 16.
 fn low_products<const M: u32>(factor: u8) -> [u8; 16]
@@ -166,7 +166,7 @@ fn add_rest<const M: u32>(
 }
 
 /// Adds a multiple of each element of `source` to that of `target` at the same place.
-pub fn add_multiple<const M: u32, P: Ledger>(
+pub fn add_multiple<const M: u32, P: Products>(
     target: &mut [Gf<M>],
     source: &[Gf<M>],
     factor: Gf<M>,

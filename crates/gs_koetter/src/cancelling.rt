@@ -7,10 +7,10 @@ ghost use Rattle.gs_koetter.specs.declared.curve.Curve.{Curve};
 ghost use Rattle.gs_koetter.specs.Shapes.{AreCancelled, HasRoom, IsCancelled, IsEnded, IsPivot, at_place, better, slot};
 
 use crate::curve::Curve;
-use gf2m::{Field, Ledger, Steps};
+use gf2m::{Field, Products, Steps};
 
 /// Adds the factor times the source, which has only zeros from `len` on.
-pub(crate) fn add_front<F: Field, P: Ledger>(
+pub(crate) fn add_front<F: Field, P: Products>(
     target: &mut [F],
     source: &[F],
     len: usize,
@@ -28,7 +28,7 @@ pub(crate) fn add_front<F: Field, P: Ledger>(
 }
 
 /// Adds the multiple of the pivot that makes the derivative at the place zero.
-fn cancel<F: Field, P: Ledger>(
+fn cancel<F: Field, P: Products>(
     curve: &mut Curve<F>,
     pivot: &Curve<F>,
     place: usize,
@@ -51,7 +51,7 @@ fn cancel<F: Field, P: Ledger>(
 }
 
 /// Makes the derivative at the place zero in each curve that is kept.
-pub(crate) fn cancel_all<F: Field, P: Ledger>(
+pub(crate) fn cancel_all<F: Field, P: Products>(
     curves: &mut [Option<Curve<F>>],
     pivot: &Curve<F>,
     place: usize,

@@ -10,10 +10,10 @@ use crate::cancelling::{cancel_all, shortest};
 use crate::curve::Curve;
 use crate::frame::Frame;
 use crate::raising::raise;
-use gf2m::{Field, Ledger, Steps};
+use gf2m::{Field, Products, Steps};
 
 /// Makes the derivative of the order at this place zero in all curves at the point at hand, whose first coordinate is a.
-pub(crate) fn handle<F: Field, P: Ledger>(
+pub(crate) fn handle<F: Field, P: Products>(
     curves: &mut [Option<Curve<F>>],
     spare: &mut Curve<F>,
     frame: &Frame,
@@ -44,7 +44,7 @@ pub(crate) fn handle<F: Field, P: Ledger>(
 }
 
 /// The inverse of the curve's derivative at the place.
-fn inverse_at<F: Field, P: Ledger>(curve: &Curve<F>, place: usize, prods: &mut Steps<P>) -> F
+fn inverse_at<F: Field, P: Products>(curve: &Curve<F>, place: usize, prods: &mut Steps<P>) -> F
     requires inside { place < length curve.now.list.items }
     requires nonzero { at_place F.ring place curve.now ≢ F.ring.nil }
     ensures inverse { F.ring.times (at_place F.ring place curve.now) result ≡ F.ring.unit }
@@ -54,7 +54,7 @@ fn inverse_at<F: Field, P: Ledger>(curve: &Curve<F>, place: usize, prods: &mut S
 }
 
 /// The curve times x + a, or none where that is too heavy.
-fn multiplied<F: Field, P: Ledger>(
+fn multiplied<F: Field, P: Products>(
     mut curve: Curve<F>,
     spare: &mut Curve<F>,
     frame: &Frame,
@@ -83,7 +83,7 @@ fn multiplied<F: Field, P: Ledger>(
 }
 
 /// Makes the derivative of the order at this place zero, with the curve at `p` as the pivot.
-fn step<F: Field, P: Ledger>(
+fn step<F: Field, P: Products>(
     curves: &mut [Option<Curve<F>>],
     spare: &mut Curve<F>,
     frame: &Frame,
@@ -116,7 +116,7 @@ fn step<F: Field, P: Ledger>(
 }
 
 /// Makes the derivatives of all orders zero in all curves at the point at hand.
-pub(crate) fn handle_all<F: Field, P: Ledger>(
+pub(crate) fn handle_all<F: Field, P: Products>(
     curves: &mut [Option<Curve<F>>],
     spare: &mut Curve<F>,
     frame: &Frame,

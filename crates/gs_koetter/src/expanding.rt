@@ -7,10 +7,10 @@ ghost use Rattle.koetter_terms.specs.Derivatives.{derivative};
 ghost use Rattle.gs_koetter.specs.Tables.{AreSquares, entry};
 
 use crate::cancelling::add_front;
-use gf2m::{Field, Ledger, Steps};
+use gf2m::{Field, Products, Steps};
 
 /// Puts in the powers a, a^2, a^4 and so on of the element.
-pub(crate) fn fill_squares<F: Field, P: Ledger>(
+pub(crate) fn fill_squares<F: Field, P: Products>(
     squares: &mut Vec<F>,
     element: F,
     prods: &mut Steps<P>,
@@ -29,7 +29,7 @@ pub(crate) fn fill_squares<F: Field, P: Ledger>(
 /// Puts in each column of the table, which holds a polynomial's coefficients from the power 0 on, the polynomial's derivatives
 /// from the order 0 on, at the element whose squares these are. `span` is how many entries 2^n rows have, where n is the number
 /// of squares; afterwards only the first `wanted` entries count.
-pub(crate) fn expand<F: Field, P: Ledger>(
+pub(crate) fn expand<F: Field, P: Products>(
     table: &mut [F],
     squares: &[F],
     span: usize,

@@ -14,7 +14,7 @@ use crate::curve::Curve;
 use crate::frame::{Frame, Halvings, Monomials, cells, turns};
 use crate::points::{Scratch, handle_points};
 use bi_poly::BiPoly;
-use gf2m::{Field, Ledger, Steps};
+use gf2m::{Field, Products, Steps};
 use gs_params::{Interpolate, Params};
 use lists::Memory;
 use std::alloc::{AllocError, Global};
@@ -31,7 +31,7 @@ impl Interpolate for Koetter {
 
     ghost cost = { λ p. 8 * p.rows * ((p.e - 1) / p.w + 1) * p.cols };
 
-    fn curve<F: Field, P: Ledger>(
+    fn curve<F: Field, P: Products>(
         &self,
         alloc: Global,
         points: &[(F, F)],
@@ -169,7 +169,7 @@ fn taken<F: Field>(mut curves: Vec<Option<Curve<F>>>) -> Curve<F>
 }
 
 /// A curve that meets all conditions.
-fn kept_curve<F: Field, P: Ledger>(
+fn kept_curve<F: Field, P: Products>(
     alloc: Global,
     frame: &Frame,
     points: &[(F, F)],

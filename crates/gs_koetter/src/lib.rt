@@ -3,6 +3,7 @@
 
 mod cancelling;
 mod conditions;
+mod costs;
 mod curve;
 mod derivatives;
 mod expanding;
@@ -11,4 +12,5 @@ mod koetter;
 mod points;
 mod raising;
 
+pub use costs::koetter_cost;
 pub use koetter::Koetter;

@@ -13,7 +13,7 @@ use crate::derivatives::{lay_out, pick_front};
 use crate::expanding::{expand, fill_squares};
 use crate::frame::Frame;
 use crate::raising::shift;
-use gf2m::{Field, Ledger, Steps};
+use gf2m::{Field, Products, Steps};
 
 /// Room for the squares of a point's coordinates, for the table of a curve, and for its derivatives turned.
 #[derive(Drop)]
@@ -25,7 +25,7 @@ pub(crate) struct Scratch<F> {
 }
 
 /// Puts in the curve's derivatives at the point to whose coordinates the squares in `scratch` belong.
-fn derive<F: Field, P: Ledger>(
+fn derive<F: Field, P: Products>(
     curve: &mut Curve<F>,
     scratch: &mut Scratch<F>,
     frame: &Frame,
@@ -54,7 +54,7 @@ fn derive<F: Field, P: Ledger>(
 }
 
 /// Puts in the derivatives of all curves.
-fn derive_all<F: Field, P: Ledger>(
+fn derive_all<F: Field, P: Products>(
     curves: &mut [Option<Curve<F>>],
     scratch: &mut Scratch<F>,
     frame: &Frame,
@@ -80,7 +80,7 @@ fn derive_all<F: Field, P: Ledger>(
 }
 
 /// Makes the derivatives of all orders at the point zero.
-fn handle_point<F: Field, P: Ledger>(
+fn handle_point<F: Field, P: Products>(
     curves: &mut [Option<Curve<F>>],
     spare: &mut Curve<F>,
     scratch: &mut Scratch<F>,
@@ -114,7 +114,7 @@ fn handle_point<F: Field, P: Ledger>(
 }
 
 /// Makes the derivatives of all orders at all points zero.
-pub(crate) fn handle_points<F: Field, P: Ledger>(
+pub(crate) fn handle_points<F: Field, P: Products>(
     curves: &mut [Option<Curve<F>>],
     spare: &mut Curve<F>,
     scratch: &mut Scratch<F>,

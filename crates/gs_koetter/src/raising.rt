@@ -11,7 +11,7 @@ use crate::cancelling::add_front;
 use crate::curve::Curve;
 use crate::derivatives::clear;
 use crate::frame::{Frame, Monomials};
-use gf2m::{Field, Ledger, Steps};
+use gf2m::{Field, Products, Steps};
 use std::mem;
 
 /// The entry at the place, and zero past the end.
@@ -80,7 +80,7 @@ fn times_x<F: Field>(target: &mut [F], source: &[F], w: usize, len: usize, runs:
 }
 
 /// Puts in the product of the source, whose coefficients from `len` on are zero, with x + a.
-fn multiply<F: Field, P: Ledger>(
+fn multiply<F: Field, P: Products>(
     target: &mut [F],
     source: &[F],
     terms: &Monomials,
@@ -106,7 +106,7 @@ fn multiply<F: Field, P: Ledger>(
 }
 
 /// Puts in the list of the product with x + a, from the list of a curve with so many derivatives and coefficients.
-fn raise_list<F: Field, P: Ledger>(
+fn raise_list<F: Field, P: Products>(
     target: &mut [F],
     source: &[F],
     frame: &Frame,
@@ -141,7 +141,7 @@ fn raise_list<F: Field, P: Ledger>(
 }
 
 /// Multiplies the curve by x + a, where a is the first coordinate of the point at hand. What is in `spare` is lost.
-pub(crate) fn raise<F: Field, P: Ledger>(
+pub(crate) fn raise<F: Field, P: Products>(
     curve: &mut Curve<F>,
     spare: &mut Curve<F>,
     frame: &Frame,

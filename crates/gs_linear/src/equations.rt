@@ -6,12 +6,12 @@ ghost use Rattle.gs_linear.specs.Equations.{HaveEquations, IsEquation};
 ghost use Rattle.term_lists.specs.Extended.{IsExtended};
 ghost use Rattle.term_lists.specs.Places.{exponents_at};
 
-use gf2m::{Field, Ledger, Steps};
+use gf2m::{Field, Products, Steps};
 use std::alloc::{AllocError, Global};
 use term_lists::{Exponents, power_derivative, powers};
 
 /// The rows of all points. All exponents are below e.
-pub(crate) fn equations<F: Field, P: Ledger>(
+pub(crate) fn equations<F: Field, P: Products>(
     alloc: Global,
     terms: &[Exponents],
     orders: &[Exponents],
@@ -34,7 +34,7 @@ pub(crate) fn equations<F: Field, P: Ledger>(
 }
 
 /// Adds the rows of one point.
-fn add_equations<F: Field, P: Ledger>(
+fn add_equations<F: Field, P: Products>(
     rows: &mut Vec<Vec<F>>,
     alloc: Global,
     terms: &[Exponents],
@@ -62,7 +62,7 @@ fn add_equations<F: Field, P: Ledger>(
 }
 
 /// The row of one order at the point to whose coordinates these powers belong.
-fn equation<F: Field, P: Ledger>(
+fn equation<F: Field, P: Products>(
     alloc: Global,
     terms: &[Exponents],
     order: Exponents,

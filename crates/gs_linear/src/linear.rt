@@ -6,7 +6,7 @@ ghost use Rattle.term_lists.specs.Places.{AreTermsBelow};
 
 use crate::equations::equations;
 use bi_poly::BiPoly;
-use gf2m::{Elements, Field, Ledger, Steps};
+use gf2m::{Elements, Field, Products, Steps};
 use gs_params::{Interpolate, Params};
 use linear_solve::Matrix;
 use lists::Memory;
@@ -23,7 +23,7 @@ impl Interpolate for Linear {
 
     ghost cost = { λ p. 16 * (p.rows * p.rows) * p.cols };
 
-    fn curve<F: Field, P: Ledger>(
+    fn curve<F: Field, P: Products>(
         &self,
         alloc: Global,
         points: &[(F, F)],
@@ -40,7 +40,7 @@ impl Interpolate for Linear {
 }
 
 /// A vector that is not zero and solves the system.
-fn solution<F: Field, P: Ledger>(
+fn solution<F: Field, P: Products>(
     alloc: Global,
     terms: &[Exponents],
     orders: &[Exponents],

@@ -6,7 +6,7 @@ ghost use Rattle.algebra.specs.Bivariate.{HasMultiplicity, greatest, weight_by};
 
 use crate::parameters::Params;
 use bi_poly::BiPoly;
-use gf2m::{Field, Ledger, Steps};
+use gf2m::{Field, Products, Steps};
 use lists::Memory;
 use std::alloc::Global;
 
@@ -18,7 +18,7 @@ pub trait Interpolate {
 
     /// A polynomial Q(x, y) that is not zero, all of whose terms weigh less than e, and that is zero at each point with
     /// multiplicity at least s. Points may share a coordinate, or be the same. The only error is want of memory.
-    fn curve<F: Field, P: Ledger>(
+    fn curve<F: Field, P: Products>(
         &self,
         alloc: Global,
         points: &[(F, F)],

@@ -7,7 +7,7 @@ ghost use Rattle.lic_register.specs.declared.errors.EnrolError.TheVariants as en
 
 use crate::errors::{EnrolError, WithdrawError};
 use crate::register::Register;
-use steps::{Ledger, Steps};
+use steps::{Looks, Steps};
 use texts::is_plain;
 
 impl Register {
@@ -58,7 +58,7 @@ impl Register {
 
     /// Withdraws the licensee with this name, whose serial, name and message stay taken, and answers the serial. A refusal
     /// leaves the register as it was. It takes no memory, and is one look.
-    pub fn withdraw<Q: Ledger>(
+    pub fn withdraw<Q: Looks>(
         &mut self,
         name: &str,
         looks: &mut Steps<Q>,

@@ -8,11 +8,11 @@ ghost use Rattle.lic_register.specs.Index.{shown};
 use crate::licensee::Licensee;
 use crate::register::Register;
 use code_terms::Message;
-use steps::{Ledger, Steps};
+use steps::{Looks, Steps};
 
 impl Register {
     /// The serial and the licensee with this message; `None` where nobody has it. This is one look, and takes no memory.
-    pub fn by_message<Q: Ledger>(
+    pub fn by_message<Q: Looks>(
         &self,
         message: Message,
         looks: &mut Steps<Q>,

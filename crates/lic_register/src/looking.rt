@@ -8,11 +8,11 @@ ghost use Rattle.lic_register.specs.Index.{shown};
 use crate::licensee::Licensee;
 use crate::register::Register;
 use code_terms::Message;
-use steps::{Ledger, Steps};
+use steps::{Looks, Steps};
 
 impl Register {
     /// The licensee of this serial; `None` where nobody has it. This is one look.
-    pub fn entry<Q: Ledger>(&self, serial: u32, looks: &mut Steps<Q>) -> Option<Licensee<'_>>
+    pub fn entry<Q: Looks>(&self, serial: u32, looks: &mut Steps<Q>) -> Option<Licensee<'_>>
         ensures found { option_map shown result ≡ slice_get self.now.licensees serial }
         ensures looks { looks.new ≡ looks.old + 1 }
     {
@@ -25,7 +25,7 @@ impl Register {
     }
 
     /// The serial of the licensee with this name; `None` where nobody has it. This is one look.
-    pub fn serial_of<Q: Ledger>(&self, name: &str, looks: &mut Steps<Q>) -> Option<u32>
+    pub fn serial_of<Q: Looks>(&self, name: &str, looks: &mut Steps<Q>) -> Option<u32>
         ensures found { result ≡ serial_of (names_of self.now.licensees) name.now }
         ensures looks { looks.new ≡ looks.old + 1 }
     {
@@ -42,7 +42,7 @@ impl Register {
     }
 
     /// The message of the licensee of this serial; `None` where nobody has it. This is one look.
-    pub fn message_of<Q: Ledger>(&self, serial: u32, looks: &mut Steps<Q>) -> Option<Message>
+    pub fn message_of<Q: Looks>(&self, serial: u32, looks: &mut Steps<Q>) -> Option<Message>
         ensures found { result ≡ (if nat_lt serial (length self.now.licensees) then Some
             (message_of self.now serial) else None) }
         ensures looks { looks.new ≡ looks.old + 1 }

@@ -13,12 +13,12 @@ use crate::rule::Rule;
 use indexmap::IndexMap;
 use lists::Memory;
 use std::alloc::Global;
-use steps::{Ledger, Steps};
+use steps::{Looks, Steps};
 use texts::number_text;
 
 impl Register {
     /// The text that the register is kept as. It takes a look for each licensee.
-    pub fn write<Q: Ledger>(&self, looks: &mut Steps<Q>) -> Result<Vec<u8>, Memory>
+    pub fn write<Q: Looks>(&self, looks: &mut Steps<Q>) -> Result<Vec<u8>, Memory>
         ensures text { IfOk result (λ bytes. bytes.items ≡ register_text self.now) }
         ensures looks { looks.new ≡ looks.old + length self.now.licensees }
     {

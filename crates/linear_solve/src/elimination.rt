@@ -7,12 +7,12 @@ ghost use Rattle.linear_solve.specs.Pivots.{ArePivots, HaveSameSolutions};
 ghost use Rattle.linear_solve.specs.Tables.{cleared, entries, HaveLength};
 
 use crate::pivot::Pivot;
-use gf2m::{Field, Ledger, Steps};
+use gf2m::{Field, Products, Steps};
 use std::alloc::{AllocError, Global};
 
 /// Takes the rows out from the last to the first, and clears those that are left in the column of the row's first entry
 /// that is not zero.
-pub(crate) fn eliminate<F: Field, P: Ledger>(
+pub(crate) fn eliminate<F: Field, P: Products>(
     alloc: Global,
     mut rows: Vec<Vec<F>>,
     columns: usize,
@@ -63,7 +63,7 @@ fn leading<F: Field>(row: &[F]) -> Option<usize>
 }
 
 /// The inverse of the row's entry in the column.
-fn inverse_at<F: Field, P: Ledger>(row: &[F], column: usize, prods: &mut Steps<P>) -> F
+fn inverse_at<F: Field, P: Products>(row: &[F], column: usize, prods: &mut Steps<P>) -> F
     requires column { column < length row.now }
     requires entry { coefficients F.ring row.now column ≢ F.ring.nil }
     ensures inverse { F.ring.times (coefficients F.ring row.now column) result ≡ F.ring.unit }
@@ -73,7 +73,7 @@ fn inverse_at<F: Field, P: Ledger>(row: &[F], column: usize, prods: &mut Steps<P
 }
 
 /// Clears the row in the pivot's column.
-fn clear<F: Field, P: Ledger>(
+fn clear<F: Field, P: Products>(
     row: &mut Vec<F>,
     pivot: &[F],
     column: usize,
@@ -90,7 +90,7 @@ fn clear<F: Field, P: Ledger>(
 }
 
 /// Clears all rows in the pivot's column.
-fn clear_all<F: Field, P: Ledger>(
+fn clear_all<F: Field, P: Products>(
     rows: &mut [Vec<F>],
     pivot: &[F],
     column: usize,

@@ -7,7 +7,7 @@ ghost use Rattle.linear_solve.specs.Tables.{HaveLength, entries};
 
 use crate::elimination::eliminate;
 use crate::solution::{free_column, solution};
-use gf2m::{Elements, Field, Ledger, Steps};
+use gf2m::{Elements, Field, Products, Steps};
 use lists::{Items, Memory};
 use std::alloc::{AllocError, Global};
 use std::marker::Model;
@@ -85,7 +85,7 @@ impl<F: Field> Matrix<F> {
     }
 
     /// A vector that every row sends to zero: one that is not zero, where there is one. The only error is want of memory.
-    pub fn kernel<P: Ledger>(
+    pub fn kernel<P: Products>(
         self,
         alloc: Global,
         prods: &mut Steps<P>,
@@ -111,7 +111,7 @@ impl<F: Field> Matrix<F> {
     }
 
     /// The rank: how many rows the longest list of independent rows has. The only error is want of memory.
-    pub fn rank<P: Ledger>(self, alloc: Global, prods: &mut Steps<P>) -> Result<usize, Memory>
+    pub fn rank<P: Products>(self, alloc: Global, prods: &mut Steps<P>) -> Result<usize, Memory>
         ensures rank { IfOk result (λ rank.
             IsRank F.ring (length self.rows) self.columns (entries F.ring self.rows) rank) }
         ensures products { prods.new ≤ prods.old

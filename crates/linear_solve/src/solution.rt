@@ -7,7 +7,7 @@ ghost use Rattle.linear_solve.specs.Pivots.{ArePivots, rows_of, columns_of, sett
 ghost use Rattle.linear_solve.specs.Tables.{entries};
 
 use crate::pivot::Pivot;
-use gf2m::{Field, Ledger, Steps};
+use gf2m::{Field, Products, Steps};
 use std::alloc::{AllocError, Global};
 
 /// A column that is no pivot's.
@@ -40,7 +40,7 @@ fn is_free<F: Field>(pivots: &[Pivot<F>], column: usize) -> bool
 }
 
 /// The row's sum of products with the vector.
-fn row_times<F: Field, P: Ledger>(row: &[F], vector: &[F], prods: &mut Steps<P>) -> F
+fn row_times<F: Field, P: Products>(row: &[F], vector: &[F], prods: &mut Steps<P>) -> F
     requires { length row.now ≡ length vector.now }
     ensures value { result ≡ row_times F.ring (length row.now) (coefficients F.ring row.now)
         (coefficients F.ring vector.now) }
@@ -54,7 +54,7 @@ fn row_times<F: Field, P: Ledger>(row: &[F], vector: &[F], prods: &mut Steps<P>)
 }
 
 /// The vector with 1 in the free column that the pivots' rows send to zero.
-pub(crate) fn solution<F: Field, P: Ledger>(
+pub(crate) fn solution<F: Field, P: Products>(
     alloc: Global,
     pivots: &[Pivot<F>],
     columns: usize,
@@ -79,7 +79,7 @@ pub(crate) fn solution<F: Field, P: Ledger>(
 }
 
 /// Changes the vector in the pivot's column so that the pivot's row sends it to zero.
-fn settle<F: Field, P: Ledger>(pivot: &Pivot<F>, vector: &mut Vec<F>, prods: &mut Steps<P>)
+fn settle<F: Field, P: Products>(pivot: &Pivot<F>, vector: &mut Vec<F>, prods: &mut Steps<P>)
     requires column { pivot.now.column < length vector.old.items }
     requires length { length pivot.now.row.items ≡ length vector.old.items }
     ensures value { vector.new.items ≡ settled F.ring pivot.now vector.old.items }

@@ -1,13 +1,15 @@
--- How few y-roots a curve for a word has, and how many products the decoder takes.
-use Rattle.std.proofs.Common.{◌≡◌, ◌≢◌, inl, inr, ℕ, zero, suc, ◌+◌, ◌-◌, ◌*◌, ◌<◌, ◌≤◌, ap, arith}
+-- How few y-roots a curve for some pairs has, and how many products the decoder takes.
+use Rattle.std.proofs.Common.{◌≡◌, ◌≢◌, inl, inr, ℕ, zero, suc, ◌+◌, ◌-◌, ◌*◌, ◌<◌, ◌≤◌, List, length, Result, Ok, Err, IfOk, ap, arith}
 use Rattle.std.specs.FinMap.{empty}
 use Rattle.std.proofs.lemmas.Bool.{cases_lt}
 use Rattle.std.proofs.lemmas.Nat.{mul-le}
 use Rattle.std.proofs.Math.Nat.{mul-le-mul_left, mul-le-mul_right, lt_of_mul-lt-mul_left}
 use Rattle.algebra.specs.Bivariate.{Bivariate, greatest, weight_by, x_power, y_power}
 use Rattle.algebra.proofs.Entries.{greatest_at, greatest_least, greatest_reached}
+use Rattle.list_decode.specs.declared.decode_error.DecodeError.{DecodeError}
 use Rattle.decoding_terms.specs.Parameters.{IsAgreement}
 use Rattle.decoder_terms.specs.Bounds.{root_bound, decoding_bound}
+use Rattle.pair_terms.specs.Recovery.{recovery_bound}
 
 -- y counts in the weight
 y_weighs : {F : Type 0} (q : Bivariate F) (w : ℕ) → q ≢ empty → w * greatest y_power q ≤ greatest (weight_by w) q
@@ -41,8 +43,8 @@ weight_low w c r t s e some agreement few light =
     omega arith
 
 -- so there are fewer powers of y
-pub powers_few : {F : Type 0} (q : Bivariate F) (w c r n e : ℕ) → q ≢ empty → 1 ≤ c → r ≤ n → greatest (weight_by w) q < e → e ≤ w * (r + c - 1) → greatest y_power q + 1 < n + c
-powers_few q w c r n e some bound places light low =
+pub powers_few : {F : Type 0} (q : Bivariate F) (w c r e : ℕ) → q ≢ empty → 1 ≤ c → greatest (weight_by w) q < e → e ≤ w * (r + c - 1) → greatest y_power q + 1 < r + c
+powers_few q w c r e some bound light low =
     let weighs : w * greatest y_power q ≤ greatest (weight_by w) q = y_weighs q w some in
     let less : w * greatest y_power q < w * (r + c - 1) = omega arith in
     let few : greatest y_power q < r + c - 1 = lt_of_mul-lt-mul_left w less in
@@ -60,18 +62,41 @@ roots_within k a y w e few low =
     let grouped : k * (a * a * (256 + w * (a * a))) ≡ k * (a * a) * (256 + w * (a * a)) = omega arith in
     omega arith
 
-module _ (n k c r e y : ℕ) (few : y + 1 < n + c) (places : r ≤ n) (some : 1 ≤ c) (low : e ≤ (k - 1) * (r + c - 1)) where
+module _ (k c r e y : ℕ) (few : y + 1 < r + c) (some : 1 ≤ c) (low : e ≤ (k - 1) * (r + c - 1)) where
   -- where the roots are found
-  pub search_within : (curve old mid new : ℕ) → mid ≤ old + curve → new ≤ mid + k * ((y + 1) * (y + 1) * (256 + e * (y + 1))) → new ≤ old + (curve + root_bound n k c)
+  pub search_within : (curve old mid new : ℕ) → mid ≤ old + curve → new ≤ mid + k * ((y + 1) * (y + 1) * (256 + e * (y + 1))) → new ≤ old + (curve + root_bound r k c)
   search_within curve old mid new first second =
-      let wide : (k - 1) * (r + c - 1) ≤ (k - 1) * (n + c) = mul-le-mul_left (k - 1) (omega arith) in
-      let roots : k * ((y + 1) * (y + 1) * (256 + e * (y + 1))) ≤ k * ((n + c) * (n + c)) * (256 + (k - 1) * ((n + c) * (n + c))) =
-      roots_within k (n + c) (y + 1) (k - 1) e (omega arith) (omega arith) in
+      let wide : (k - 1) * (r + c - 1) ≤ (k - 1) * (r + c) = mul-le-mul_left (k - 1) (omega arith) in
+      let roots : k * ((y + 1) * (y + 1) * (256 + e * (y + 1))) ≤ k * ((r + c) * (r + c)) * (256 + (k - 1) * ((r + c) * (r + c))) =
+      roots_within k (r + c) (y + 1) (k - 1) e (omega arith) (omega arith) in
       omega arith
 
-  -- and compared with the word
-  pub comparing_within : (curve old mid new count : ℕ) → count ≤ y → mid ≤ old + (curve + root_bound n k c) → new ≤ mid + count * (n * k) → new ≤ old + decoding_bound curve n k c
-  comparing_within curve old mid new count l first second =
-      let all : count * (n * k) ≤ (n + c) * (n * k) = mul-le-mul_right (n * k) (omega arith) in
-      let grouped : (n + c) * (n * k) ≡ (n + c) * n * k = omega arith in
+  -- and compared with the pairs
+  pub comparing_within : (n curve old mid new count : ℕ) → count ≤ y → mid ≤ old + (curve + root_bound r k c) → new ≤ mid + count * (n * k) → new ≤ old + recovery_bound curve r n k c
+  comparing_within n curve old mid new count l first second =
+      let all : count * (n * k) ≤ (r + c) * (n * k) = mul-le-mul_right (n * k) (omega arith) in
+      let grouped : (r + c) * (n * k) ≡ (r + c) * n * k = omega arith in
       omega arith
+
+-- fewer pairs take no more products
+pub fewer_roots : (r n k c : ℕ) → r ≤ n → root_bound r k c ≤ root_bound n k c
+fewer_roots r n k c few =
+    let low : (k - 1) * (r + c) ≤ (k - 1) * (n + c) = mul-le-mul_left (k - 1) (omega arith) in
+    let within = roots_within k (n + c) (r + c) (k - 1) ((k - 1) * (r + c)) (omega arith) low in
+    let height : (k - 1) * (r + c) * (r + c) ≡ (k - 1) * ((r + c) * (r + c)) = omega arith in
+    let inner : (r + c) * (r + c) * (256 + (k - 1) * (r + c) * (r + c)) ≡ (r + c) * (r + c) * (256 + (k - 1) * ((r + c) * (r + c))) =
+    ap (λ t. (r + c) * (r + c) * (256 + t)) height in
+    let outer : k * ((r + c) * (r + c) * (256 + (k - 1) * (r + c) * (r + c))) ≡ k * ((r + c) * (r + c) * (256 + (k - 1) * ((r + c) * (r + c)))) = ap (λ t. k * t) inner in
+    let grouped : k * ((r + c) * (r + c) * (256 + (k - 1) * ((r + c) * (r + c)))) ≡ k * ((r + c) * (r + c)) * (256 + (k - 1) * ((r + c) * (r + c))) = omega arith in
+    omega arith
+
+pub fewer_within : (curve r n k c : ℕ) → r ≤ n → recovery_bound curve r n k c ≤ decoding_bound curve n k c
+fewer_within curve r n k c few =
+    let roots : root_bound r k c ≤ root_bound n k c = fewer_roots r n k c few in
+    let ends : (r + c) * n * k ≤ (n + c) * n * k = mul-le-mul_right k (mul-le-mul_right n (omega arith)) in
+    omega arith
+
+-- and find no more messages
+pub few_more : (result : Result (List ℕ) DecodeError) (a b : ℕ) → a ≤ b → IfOk result (λ messages. length messages < a) → IfOk result (λ messages. length messages < b)
+few_more (Ok messages) a b less few = omega (arith, few)
+few_more (Err why) a b less few = few

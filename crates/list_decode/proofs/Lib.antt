@@ -1,4 +1,3 @@
-pub mod PointsMade
 pub mod Messages
 pub mod Kept
 pub mod Bounds

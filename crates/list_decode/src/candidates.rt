@@ -1,30 +1,32 @@
-//! The y-roots of a curve as messages, of which those stay that agree with enough of the word.
+//! The y-roots of a curve as messages, of which those stay that fit enough of the pairs.
 
 ghost use Rattle.std.specs.Prelude.{◌≡◌, ℕ, ◌+◌, ◌*◌, ◌^◌, ◌<◌, ◌≤◌, [], ◌∷◌, ◌++◌, All, IfOk, OnOk, filter, if◌then◌else◌, length, map, nat_le};
 ghost use Rattle.code_terms.specs.Symbols.{packed};
-ghost use Rattle.code_terms.specs.Words.{agreement_of, readable};
-ghost use Rattle.decoder_terms.specs.Decoding.{meets_threshold};
+ghost use Rattle.pair_terms.specs.Pairs.{ArePairs};
+ghost use Rattle.pair_terms.specs.Recovery.{fits_enough};
 
-use gf2m::{Elements, Field, Items, Ledger, Steps};
+use gf2m::{Elements, Field, Items, Products, Steps};
 use lists::Memory;
-use rs_code::{Code, Message, Word};
+use rs_code::{Code, Message};
+use shown_pairs::fitting_count;
 use std::alloc::{AllocError, Global};
 use uni_poly::Poly;
 
 /// The messages with these coefficients that meet the threshold, in the same order.
-pub fn kept<F: Field, P: Ledger>(
+pub fn kept<F: Field, P: Products>(
     alloc: Global,
     code: &Code<F>,
-    word: &Word,
+    pairs: &[(u32, u8)],
     c: u32,
     roots: &[Poly<F>],
     prods: &mut Steps<P>,
 ) -> Result<Vec<Message>, Memory>
-    requires length { length word.now ≡ code.now.places }
+    requires pairs { ArePairs code.now.places pairs.now }
+    requires few { length pairs.now ≤ 1024 }
     requires bound { c ≤ 8 }
     requires short { All (λ root. length root ≤ code.now.dimension) roots.now }
     ensures value { IfOk result (λ messages. messages.items
-        ≡ filter (meets_threshold F.BITS code.now.dimension word.now c)
+        ≡ filter (fits_enough F.BITS code.now.dimension pairs.now c)
         (map (λ root. packed F.BITS (map F.number root)) roots.now)) }
     ensures products { prods.new ≤ prods.old
         + length roots.now * (code.now.places * code.now.dimension) }
@@ -32,7 +34,7 @@ pub fn kept<F: Field, P: Ledger>(
     let mut messages = Vec::new(alloc);
     'roots: for i in 0..roots.len() {
         let message = message_of(alloc, code, &roots[i])?;
-        let keeps = meets(code, word, c, message, prods);
+        let keeps = meets(code, pairs, c, message, prods);
         keep(&mut messages, message, keeps)?;
     }
     Ok(messages)
@@ -61,20 +63,21 @@ fn message_of<F: Field>(alloc: Global, code: &Code<F>, root: &Poly<F>) -> Result
     Ok(code.pack(&coefs))
 }
 
-/// Whether the message agrees with at least a c-th part of the readable places.
-fn meets<F: Field, P: Ledger>(
+/// Whether the message fits at least a c-th part of the pairs.
+fn meets<F: Field, P: Products>(
     code: &Code<F>,
-    word: &Word,
+    pairs: &[(u32, u8)],
     c: u32,
     message: Message,
     prods: &mut Steps<P>,
 ) -> bool
-    requires length { length word.now ≡ code.now.places }
+    requires pairs { ArePairs code.now.places pairs.now }
+    requires few { length pairs.now ≤ 1024 }
     requires bound { c ≤ 8 }
     requires message { message < 2 ^ (F.BITS * code.now.dimension) }
-    ensures value { result ≡ meets_threshold F.BITS code.now.dimension word.now c message }
+    ensures value { result ≡ fits_enough F.BITS code.now.dimension pairs.now c message }
     ensures products { prods.new ≤ prods.old + code.now.places * code.now.dimension }
 {
-    let agreement = code.agreement(message, word, prods) as u64;
-    word.readable() as u64 <= agreement * c as u64
+    let count = fitting_count(code, message, pairs, prods) as u64;
+    pairs.len() as u64 <= count * c as u64
 }

@@ -3,7 +3,8 @@ use Rattle.std.proofs.Common.{◌≡◌, ℕ, suc, ◌+◌, List, [], ◌∷◌,
 use Rattle.std.specs.List.{slice_get}
 use Rattle.outcome_terms.specs.declared.refusal.Refusal.{Refusal}
 use Rattle.outcome_terms.specs.Reading.{Reading}
-use Rattle.outcome_terms.specs.Stores.{Store, Follows, gave}
+use Rattle.outcome_terms.specs.Stores.{Follows, gave}
+use Rattle.records.specs.Stores.{Store}
 use Rattle.outcome_terms.specs.Along.{along}
 use Rattle.outcome_terms.proofs.Readings.{goes_on, stops}
 use Rattle.outcome_terms.proofs.Lists.{parts, over, take_more, cut_at}

@@ -16,7 +16,8 @@ use Rattle.outcome_terms.specs.declared.refusal.Refusal.TheVariants as refusal
 use Rattle.outcome_terms.specs.Statuses.{fault_line, refusal_status, status_code}
 use Rattle.outcome_terms.specs.Request.{Request, Make, Enrol, Withdraw, MakeTitle, Package, Trace, Check, Accuse, Sample}
 use Rattle.outcome_terms.specs.Reading.{Reading, Within}
-use Rattle.outcome_terms.specs.Stores.{Store, NoneFell, Caused, Writing}
+use Rattle.outcome_terms.specs.Stores.{NoneFell, Caused, Writing}
+use Rattle.records.specs.Stores.{Store, Output}
 use Rattle.outcome_terms.specs.RegisterCommand.{make, make_statuses}
 use Rattle.outcome_terms.specs.EnrolCommand.{enrol, enrol_statuses}
 use Rattle.outcome_terms.specs.WithdrawCommand.{withdraw, withdraw_statuses}
@@ -28,7 +29,7 @@ use Rattle.outcome_terms.specs.AccuseCommand.{accuse, accuse_statuses}
 use Rattle.outcome_terms.specs.SampleCommand.{sample, sample_statuses}
 use Rattle.outcome_terms.specs.Commands.{Deed, Nothing, Put, Write, deed, request_of, may_end}
 use Rattle.outcome_terms.specs.Outcome.{Effect, Puts, Wrote, outcome, outcome_of, outcome_status, is_free_status, LeavesEffect, Performs, unknown, made, not_made, wrote, stopped, lost, DeedAsks, deed_names, written_name, refused_by_words}
-use Rattle.outcome_terms.specs.Output.{Output, PutFailed, Delivers, TellsAnswer}
+use Rattle.outcome_terms.specs.Output.{PutFailed, Delivers, TellsAnswer}
 use Rattle.outcome_terms.specs.Call.{Ends, row_behind, row, IsRefused, may_change, SparesBlobs, TellsWhole, HasEffect, KeepsOutput, StatusCauses, GetsSoFar}
 use Rattle.outcome_terms.proofs.Following.{over_told}
 use Rattle.outcome_terms.proofs.Rows.{make_within, withdraw_within, enrol_within, accuse_within, sample_within}

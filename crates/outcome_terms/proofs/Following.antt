@@ -10,7 +10,8 @@ use Rattle.outcome_terms.specs.declared.refusal.Refusal.{Refusal}
 use Rattle.outcome_terms.specs.declared.refusal.Refusal.TheVariants as refusal
 use Rattle.outcome_terms.specs.Statuses.{refusal_status}
 use Rattle.outcome_terms.specs.Reading.{Reading, Read, Asks, now, later, Within, read_blob, with_bytes, given, names_with, names_read}
-use Rattle.outcome_terms.specs.Stores.{Store, Answers, NoneFell, Caused, OfRead, Reads, Follows, gave, refused, went_on, failed, no_memory}
+use Rattle.outcome_terms.specs.Stores.{Answers, NoneFell, Caused, OfRead, Reads, Follows, gave, refused, went_on, failed, no_memory}
+use Rattle.records.specs.Stores.{Store}
 
 -- no blob changes
 pub kept : {A : Type 0} {reading : Reading A} {s t : Store} {answer : Result A Refusal} → Follows reading s t answer → t.told ≡ s.told

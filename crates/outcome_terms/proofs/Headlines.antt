@@ -33,7 +33,7 @@ use Rattle.outcome_terms.specs.EnrolCommand.{enrolled, enrol}
 use Rattle.outcome_terms.specs.WithdrawCommand.{withdrawn, withdraw}
 use Rattle.outcome_terms.specs.AccuseCommand.{allowed, word_under, report, accuse}
 use Rattle.outcome_terms.specs.Outcome.{HasWritten, puts, writes}
-use Rattle.outcome_terms.specs.Output.{Output}
+use Rattle.records.specs.Stores.{Output}
 use Rattle.outcome_terms.specs.Call.{HasEffect, TellsWhole}
 use Rattle.outcome_terms.specs.Reports.{HoldsRegister, HoldsWord, MakesRegister, EnrolsName, WithdrawsName, IsReport, TellsReport}
 use Rattle.outcome_terms.proofs.Givens.{took, met, not_found, was_given, was_understood, was_held}

@@ -15,3 +15,5 @@ pub mod TraceHeadlines
 pub mod CheckHeadlines
 pub mod GivenParts
 pub mod PackagingNames
+pub mod Supposed
+pub mod Exact

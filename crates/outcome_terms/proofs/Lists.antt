@@ -6,7 +6,8 @@ use Rattle.outcome_terms.specs.declared.fault.Fault.{Fault}
 use Rattle.outcome_terms.specs.declared.refusal.Refusal.{Refusal}
 use Rattle.outcome_terms.specs.declared.refusal.Refusal.TheVariants as refusal
 use Rattle.outcome_terms.specs.Reading.{Reading, Give, Refuse, Read, ◌>>=◌, each}
-use Rattle.outcome_terms.specs.Stores.{Store, Follows, gave, went_on, no_memory}
+use Rattle.outcome_terms.specs.Stores.{Follows, gave, went_on, no_memory}
+use Rattle.records.specs.Stores.{Store}
 use Rattle.outcome_terms.proofs.Readings.{goes_on, stops}
 
 -- the parts of a chain that gave a value

@@ -12,7 +12,8 @@ use Rattle.outcome_terms.specs.declared.refusal.Refusal.{Refusal}
 use Rattle.outcome_terms.specs.declared.refusal.Refusal.TheVariants as refusal
 use Rattle.outcome_terms.specs.Statuses.{refusal_status}
 use Rattle.outcome_terms.specs.Reading.{Reading, Within, given}
-use Rattle.outcome_terms.specs.Stores.{Store, NoneFell, Caused, OfWrite, Follows, gave, refused, went_on, failed, no_memory, Writing, Holds, OnlyChanges}
+use Rattle.outcome_terms.specs.Stores.{NoneFell, Caused, OfWrite, Follows, gave, refused, went_on, failed, no_memory, Writing, Holds, OnlyChanges}
+use Rattle.records.specs.Stores.{Store}
 use Rattle.outcome_terms.specs.Commands.{Deed, Nothing, Put, Write}
 use Rattle.outcome_terms.specs.Outcome.{Effect, Puts, Wrote, puts, writes, outcome_of, deed_names, LeavesEffect, Performs, unknown, made, not_made, wrote, stopped, lost, DeedAsks, written_name, first_refusal, refused_by_words}
 use Rattle.outcome_terms.specs.Call.{OnlyWrites}

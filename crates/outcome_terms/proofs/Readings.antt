@@ -4,7 +4,8 @@ use Rattle.outcome_terms.specs.declared.fault.Fault.{Fault}
 use Rattle.outcome_terms.specs.declared.refusal.Refusal.{Refusal}
 use Rattle.outcome_terms.specs.declared.refusal.Refusal.TheVariants as refusal
 use Rattle.outcome_terms.specs.Reading.{Reading, Give, ◌>>=◌, ◌>>◌, require, blob}
-use Rattle.outcome_terms.specs.Stores.{Store, Settles, Reads, Follows, gave, refused, went_on, failed, no_memory, Writing, IsWriting, Writes}
+use Rattle.outcome_terms.specs.Stores.{Settles, Reads, Follows, gave, refused, went_on, failed, no_memory, Writing, IsWriting, Writes}
+use Rattle.records.specs.Stores.{Store}
 use Rattle.outcome_terms.specs.Commands.{Put, Write}
 use Rattle.outcome_terms.specs.Outcome.{Performs, unknown, made, not_made, wrote, stopped, lost}
 

@@ -9,10 +9,14 @@ use Rattle.outcome_terms.specs.declared.status.Status.TheVariants as status
 use Rattle.outcome_terms.specs.declared.refusal.Refusal.{Refusal}
 use Rattle.outcome_terms.specs.Statuses.{status_code, refusal_status}
 use Rattle.outcome_terms.specs.Request.{Request}
-use Rattle.outcome_terms.specs.Stores.{Store, NoneFell, OnlyChanges}
-use Rattle.outcome_terms.specs.Commands.{Deed, deed, request_of, later_statuses}
+use Rattle.outcome_terms.specs.Stores.{NoneFell, OnlyChanges, Writing, IsWriting}
+use Rattle.outcome_terms.specs.Reading.{Reading}
+use Rattle.outcome_terms.specs.Replays.{ReadSo}
+use Rattle.records.specs.Events.{Event, Took}
+use Rattle.records.specs.Stores.{Store, Output}
+use Rattle.outcome_terms.specs.Commands.{Deed, Nothing, Put, Write, deed, request_of, later_statuses}
 use Rattle.outcome_terms.specs.Outcome.{Effect, Puts, Wrote, HasWritten, Performs, DeedAsks, written_name, deed_names, refused_by_words, outcome_of}
-use Rattle.outcome_terms.specs.Output.{Output, Delivers}
+use Rattle.outcome_terms.specs.Output.{Delivers}
 
 -- The whole: the answer that the command had, and how it was delivered.
 pub record Ends (words : List (List ℕ)) (old new : Store) (s : Status) (before after : Output) : Type 0 where
@@ -82,3 +86,26 @@ pub record GetsSoFar (d : Deed) (old new : Store) (s : Status) : Type 0 where
   pub reads_told : s ≡ status.ReadFault → IfSome old.told (λ blobs. Contains (deed_names d blobs) new.counts.blamed)
   pub writes : s ≡ status.WriteFault → (name : List ℕ) × (written_name d ≡ Some name)
   pub writes_told : s ≡ status.WriteFault → IfSome old.told (λ blobs. IsOk (outcome_of d blobs))
+
+-- ---- over every store, what was done with what was read
+
+-- Whole blobs were read and no other, the reading, answered with just their bytes, gives the text, and this was put out.
+pub record PutSo (reading : Reading (List ℕ)) (old new : Store) (before after : Output) : Type 0 where
+  pub text : List ℕ
+  pub read : ReadSo reading old.events new.events text
+  pub put : TellsWhole text before.written after.written
+  pub taken : after.events ≡ before.events ++ Took [] text ∷ []
+
+-- The same of a text that was written under a name: nothing else was handed in.
+pub record WroteSo (out : List ℕ) (reading : Reading Writing) (old new : Store) : Type 0 where
+  pub writing : Writing
+  pub text : List ℕ
+  pub between : List Event
+  pub read : ReadSo reading old.events between writing
+  pub is_writing : IsWriting writing text
+  pub taken : new.events ≡ between ++ Took out text ∷ []
+
+abbrev pub DoneSo : Deed → Store → Store → Output → Output → Type 0
+DoneSo Nothing old new before after = ⊥
+DoneSo (Put reading) old new before after = PutSo reading old new before after
+DoneSo (Write out reading) old new before after = WroteSo out reading old new × (after ≡ before)

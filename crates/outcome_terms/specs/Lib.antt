@@ -24,3 +24,4 @@ pub mod Reports
 pub mod PackagingReports
 pub mod TraceReports
 pub mod CheckReports
+pub mod Replays

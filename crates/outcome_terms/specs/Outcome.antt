@@ -8,7 +8,8 @@ use Rattle.outcome_terms.specs.declared.refusal.Refusal.{Refusal}
 use Rattle.outcome_terms.specs.declared.refusal.Refusal.TheVariants as refusal
 use Rattle.outcome_terms.specs.Statuses.{refusal_status}
 use Rattle.outcome_terms.specs.Reading.{Reading, Give, Refuse, Read, Asks, given, names_read}
-use Rattle.outcome_terms.specs.Stores.{Store, Follows, Writing, IsWriting, Writes}
+use Rattle.outcome_terms.specs.Stores.{Follows, Writing, IsWriting, Writes}
+use Rattle.records.specs.Stores.{Store}
 use Rattle.outcome_terms.specs.Commands.{Deed, Nothing, Put, Write, deed, request_of}
 
 -- ---- over a map of blobs

@@ -1,21 +1,14 @@
 -- What stands in the output after an answer. This project's own.
-use Rattle.std.specs.Prelude.{◌≡◌, ◌≢◌, ℕ, List, ◌++◌, Option, Some, None, Result, Ok, Err, codes, ◌⊎◌}
+use Rattle.std.specs.Prelude.{◌≡◌, ◌≢◌, ℕ, List, [], ◌∷◌, ◌++◌, Option, Some, None, Result, Ok, Err, codes, ◌⊎◌}
 use Rattle.shelf_terms.specs.Counts.{Rose}
 use Rattle.shelf_terms.specs.Puts.{Puts}
 use Rattle.shelf_terms.specs.Told.{WhereTold}
+use Rattle.records.specs.Events.{Took, Refused}
+use Rattle.records.specs.Stores.{Output}
 use Rattle.outcome_terms.specs.declared.status.Status.{Status}
 use Rattle.outcome_terms.specs.declared.status.Status.TheVariants as status
 use Rattle.outcome_terms.specs.declared.refusal.Refusal.{Refusal}
 use Rattle.outcome_terms.specs.Statuses.{refusal_status, error_text, line_of}
-
--- an output as contracts see it: what stands there, where it is told, and how many puts failed so far
-pub record Output : Type 0 where
-  pub written : Option (List ℕ)
-  pub faults : ℕ
-
--- an output by its own words for them
-abbrev pub output : {O : Type 0} → (O → Option (List ℕ)) → (O → ℕ) → O → Output
-output written faults o = record { written = written o; faults = faults o }
 
 -- a put failed between the one and the other
 abbrev pub PutFailed : Output → Output → Type 0
@@ -60,6 +53,9 @@ TellsRefusal s e rose old new = WhereTold (PutsRefusal s e rose) old new
 pub record PutsText (text : List ℕ) (s : Status) (old new : Output) : Type 0 where
   pub ends : (s ≡ status.Ok) ⊎ (((s ≡ status.OutFault) × PutFailed old new) ⊎ (s ≡ status.Memory))
   pub out : TellsAnswer s text old.written new.written
+  -- over every output: the text was put once, and taken or refused
+  pub taken : s ≡ status.Ok → new.events ≡ old.events ++ Took [] text ∷ []
+  pub refused : s ≡ status.OutFault → new.events ≡ old.events ++ Refused [] text ∷ []
 
 pub record PutsNothing (s : Status) (old new : Output) : Type 0 where
   pub ends : s ≡ status.Ok

@@ -4,7 +4,8 @@ use Rattle.shelf_terms.specs.Blobs.{Blobs}
 use Rattle.outcome_terms.specs.declared.refusal.Refusal.{Refusal}
 use Rattle.outcome_terms.specs.Reading.{Reading, Give, given}
 use Rattle.outcome_terms.specs.Request.{Request, Trace as Traces, Accuse, Sample}
-use Rattle.outcome_terms.specs.Stores.{Store, Follows}
+use Rattle.outcome_terms.specs.Stores.{Follows}
+use Rattle.records.specs.Stores.{Store}
 use Rattle.outcome_terms.specs.Traces.{Trace, Counted, IsWithin}
 use Rattle.outcome_terms.specs.AccuseCommand.{accuse_trace}
 use Rattle.outcome_terms.specs.TraceCommand.{trace_trace}
@@ -18,13 +19,13 @@ trace_made (Some (Sample number)) = Some (Give sample_trace)
 trace_made request = None
 
 -- Over every store: nothing is taken, or what one trace may take, where its register and word were read.
-pub data Spends (costs : Trace → ℕ → Type 0) (reading : Reading Trace) (s : Store) (old new : Counted) : Type 0 where
-  nothing : new ≡ old → Spends costs reading s old new
-  traced : {t : Store} {trace : Trace} → Follows reading s t (Ok trace) → IsWithin costs trace old new → Spends costs reading s old new
+pub data Spends (costs : Trace → ℕ → Type 0) (reading : Reading Trace) (s t : Store) (old new : Counted) : Type 0 where
+  nothing : new ≡ old → Spends costs reading s t old new
+  traced : {trace : Trace} → Follows reading s t (Ok trace) → IsWithin costs trace old new → Spends costs reading s t old new
 
-abbrev pub SpendsAtMost : (Trace → ℕ → Type 0) → Option (Reading Trace) → Store → Counted → Counted → Type 0
-SpendsAtMost costs None s old new = ⊤
-SpendsAtMost costs (Some reading) s old new = Spends costs reading s old new
+abbrev pub SpendsAtMost : (Trace → ℕ → Type 0) → Option (Reading Trace) → Store → Store → Counted → Counted → Type 0
+SpendsAtMost costs None s t old new = ⊤
+SpendsAtMost costs (Some reading) s t old new = Spends costs reading s t old new
 
 -- Over blobs that are told: what the trace of their register and word may take, and nothing where a refusal comes before it.
 abbrev pub TakesGiven : (Trace → ℕ → Type 0) → Result Trace Refusal → Counted → Counted → Type 0

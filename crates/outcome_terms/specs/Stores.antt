@@ -1,22 +1,17 @@
 -- How a reading is answered over a store that may fail at any call, and what a write leaves. This project's own.
-use Rattle.std.specs.Prelude.{◌≡◌, ℕ, ◌≤◌, List, Option, Result, Ok, Err, IfSome, IfErr, ⊤}
+use Rattle.std.specs.Prelude.{◌≡◌, ℕ, ◌≤◌, List, [], ◌∷◌, ◌++◌, length, Option, Result, Ok, Err, IfSome, IfErr, ⊤}
 use Rattle.std.specs.FinMap.{insert}
 use Rattle.shelf_terms.specs.Blobs.{Blobs, SameBut}
 use Rattle.shelf_terms.specs.Counts.{Rose, Tally}
 use Rattle.shelf_terms.specs.Told.{WhereTold}
+use Rattle.shelf_terms.specs.declared.limit.TheConstants.{BLOB_LIMIT}
+use Rattle.records.specs.Events.{Event, Took, Refused}
+use Rattle.records.specs.Stores.{Store}
+use Rattle.records.specs.Parts.{Came, IsWhole, IsLonger, IsMissed, IsFailed, IsStopped}
 use Rattle.outcome_terms.specs.declared.fault.Fault.{Fault}
 use Rattle.outcome_terms.specs.declared.refusal.Refusal.{Refusal}
 use Rattle.outcome_terms.specs.declared.refusal.Refusal.TheVariants as refusal
 use Rattle.outcome_terms.specs.Reading.{Reading, Give, Refuse, Read, read_blob}
-
--- a store as contracts see it: the blobs, where they are told, and what went wrong so far
-pub record Store : Type 0 where
-  pub told : Option Blobs
-  pub counts : Tally
-
--- a store by its own words for them
-abbrev pub store : {S : Type 0} → (S → Option Blobs) → (S → Tally) → S → Store
-store holds counts s = record { told = holds s; counts = counts s }
 
 -- an answer with the value seen by `view`
 abbrev pub seen : {A B : Type 0} → (A → B) → Result A Refusal → Result B Refusal
@@ -58,12 +53,22 @@ OfRead name (refusal.ReadFault unread) = unread ≡ name
 OfRead name (refusal.TooLong long) = long ≡ name
 OfRead name e = ⊥
 
+-- what one read adds to the events: all of the blob that it answers, or what led to the refusal
+abbrev pub ReadIs : List ℕ → Result (List ℕ) Refusal → List Event → Type 0
+ReadIs name (Ok bytes) events = IsWhole name bytes events × (length bytes ≤ BLOB_LIMIT)
+ReadIs name (Err (refusal.TooLong long)) events = IsLonger name BLOB_LIMIT events
+ReadIs name (Err (refusal.Missing missing)) events = IsMissed name events
+ReadIs name (Err (refusal.ReadFault unread)) events = IsFailed name events
+ReadIs name (Err refusal.Memory) events = IsStopped name events
+ReadIs name (Err e) events = ⊤
+
 -- one read of the blob of a name
 pub record Reads (name : List ℕ) (old new : Store) (answer : Result (List ℕ) Refusal) : Type 0 where
   pub kept : new.told ≡ old.told
   pub none_fell : NoneFell old.counts new.counts
   pub caused : IfErr answer (Caused old.counts new.counts)
   pub of_read : IfErr answer (OfRead name)
+  pub came : Came name old.events new.events (ReadIs name answer)
   pub decided : IfSome old.told (λ blobs. Answers answer (read_blob blobs name))
 
 -- The answer of a reading over a store: a value or a refusal that it reaches, by the reads on the way, or want of memory.
@@ -104,8 +109,14 @@ abbrev pub WriteLeaves : List ℕ → List ℕ → Option Blobs → Option Blobs
 WriteLeaves out text old new (Ok done) = Holds out text old new
 WriteLeaves out text old new (Err e) = OnlyChanges out old new
 
+-- what one write adds to the events: the text was handed in once, and taken or refused
+abbrev pub HandedIn : List ℕ → List ℕ → List Event → List Event → Result (Unit {0}) Refusal → Type 0
+HandedIn out text old new (Ok done) = new ≡ old ++ Took out text ∷ []
+HandedIn out text old new (Err e) = new ≡ old ++ Refused out text ∷ []
+
 pub record Writes (out text : List ℕ) (old new : Store) (answer : Result (Unit {0}) Refusal) : Type 0 where
   pub leaves : WriteLeaves out text old.told new.told answer
   pub none_fell : NoneFell old.counts new.counts
   pub caused : IfErr answer (Caused old.counts new.counts)
   pub of_write : IfErr answer (OfWrite out)
+  pub handed_in : HandedIn out text old.events new.events answer

@@ -16,7 +16,11 @@ ghost use Rattle.outcome_terms.specs.declared.refusal.Refusal.{Refusal};
 ghost use Rattle.outcome_terms.specs.Commands.{request_of};
 ghost use Rattle.outcome_terms.specs.Request.{Accuse, Check, Enrol, Make, MakeTitle, Package, Sample, Trace, Withdraw};
 ghost use Rattle.outcome_terms.specs.Reading.{Reading, given, ◌>>=◌ as ◌and_then◌};
-ghost use Rattle.outcome_terms.specs.Stores.{Answers, Follows, Store};
+ghost use Rattle.outcome_terms.specs.Stores.{Answers, Follows};
+ghost use Rattle.records.specs.Events.{Event};
+ghost use Rattle.records.specs.Stores.{Store};
+ghost use Rattle.records.specs.Agreement.{Agrees, Supposed};
+ghost use Rattle.outcome_terms.specs.Replays.{AreReads, Got, Hold, ReadSo};
 
 /// Readings that are followed one after the other are followed as a whole, none changes a blob, and where the blobs are told
 /// the answer is what the reading gives over them.
@@ -33,6 +37,18 @@ pub fn readings_compose()
     ensures decided { (reading : Reading (List ℕ)) (s t : Store)
         (answer : Result (List ℕ) Refusal) (blobs : Blobs)
         → s.told ≡ Some blobs → Follows reading s t answer → Answers answer (given blobs reading) }
+{}
+
+/// A reading that was followed over a store was followed over all blobs that agree with its events; where it gave a value, whole blobs
+/// were read and nothing else, whose bytes give the value; and blobs that hold what was read agree.
+pub fn readings_are_supposed()
+    ensures followed { (reading : Reading (List ℕ)) (s t : Store) (answer : Result (List ℕ) Refusal)
+        → Follows reading s t answer
+        → Supposed s t (λ blobs was is. Follows reading was is answer) }
+    ensures read { (reading : Reading (List ℕ)) (s t : Store) (x : List ℕ)
+        → Follows reading s t (Ok x) → ReadSo reading s.events t.events x }
+    ensures agree { (blobs : Blobs) (reads : List Got) (events : List Event)
+        → AreReads reads events → Hold blobs reads → Agrees blobs events blobs }
 {}
 
 /// Words that are commands, and words that are none: too few, too many, a number with a leading zero, a sign or nine bytes, a name

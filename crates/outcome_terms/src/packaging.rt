@@ -21,7 +21,8 @@ ghost use Rattle.outcome_terms.specs.declared.fault.Fault.TheVariants.{BadDesign
 ghost use Rattle.outcome_terms.specs.declared.refusal.Refusal.{Refusal};
 ghost use Rattle.outcome_terms.specs.declared.refusal.Refusal.TheVariants.{Content};
 ghost use Rattle.outcome_terms.specs.Reading.{Reading, given, names_read, read_blob};
-ghost use Rattle.outcome_terms.specs.Stores.{Follows, Store, Exactly};
+ghost use Rattle.outcome_terms.specs.Stores.{Follows, Exactly};
+ghost use Rattle.records.specs.Stores.{Store};
 ghost use Rattle.outcome_terms.specs.Along.{along};
 ghost use Rattle.outcome_terms.specs.TitleCommand.{title_made, told_title, hindrance_refusal, title};
 ghost use Rattle.outcome_terms.specs.PackageCommand.{packaged, package_};

@@ -17,7 +17,8 @@ use Rattle.packaging_terms.specs.Variants.{variants, place_in, symbol_in, blob_o
 use Rattle.packaging_terms.proofs.VariantNames.{HasVariant, variant_uri}
 use Rattle.outcome_terms.specs.declared.refusal.Refusal.{Refusal}
 use Rattle.outcome_terms.specs.Reading.{Give}
-use Rattle.outcome_terms.specs.Stores.{Store, Reads, Follows, gave}
+use Rattle.outcome_terms.specs.Stores.{Reads, Follows, gave}
+use Rattle.records.specs.Stores.{Store}
 use Rattle.outcome_terms.specs.TitleCommand.{digest_under, with_digest, with_variant}
 use Rattle.outcome_terms.proofs.Readings.{goes_on, stops, settled, read_follows}
 use Rattle.packager.specs.declared.errors.PackError.{PackError}

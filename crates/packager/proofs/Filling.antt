@@ -9,7 +9,8 @@ use Rattle.title_store.specs.Cells.{filled}
 use Rattle.title_store.specs.Builds.{Build}
 use Rattle.packaging_terms.specs.Variants.{variants}
 use Rattle.outcome_terms.specs.declared.refusal.Refusal.{Refusal}
-use Rattle.outcome_terms.specs.Stores.{Store, Follows, gave}
+use Rattle.outcome_terms.specs.Stores.{Follows, gave}
+use Rattle.records.specs.Stores.{Store}
 use Rattle.outcome_terms.specs.Along.{along}
 use Rattle.outcome_terms.specs.TitleCommand.{with_variant}
 use Rattle.outcome_terms.proofs.AlongLaws.{along_to, along_fails}

@@ -1,5 +1,5 @@
 -- The title that is made, and what it is where the blobs are told.
-use Rattle.std.proofs.Common.{◌≡◌, ◌∙◌, sym, ap, ap₂, subst, refl, ℕ, ◌*◌, [], Option, Some, None, IfSome, Result, Ok, Err, arith}
+use Rattle.std.proofs.Common.{List, ◌≡◌, ◌∙◌, sym, ap, ap₂, subst, refl, ℕ, ◌*◌, [], Option, Some, None, IfSome, Result, Ok, Err, arith}
 use Rattle.std.specs.Option.{option_map}
 use Rattle.shelf_terms.specs.declared.limit.TheConstants.{BLOB_LIMIT}
 use Rattle.shelf_terms.specs.Blobs.{Blobs}
@@ -15,7 +15,9 @@ use Rattle.outcome_terms.specs.declared.fault.Fault.TheVariants.{NoSegment}
 use Rattle.outcome_terms.specs.declared.refusal.Refusal.{Refusal}
 use Rattle.outcome_terms.specs.declared.refusal.Refusal.TheVariants.{Content}
 use Rattle.outcome_terms.specs.Reading.{Give, ◌>>=◌, ◌>>◌}
-use Rattle.outcome_terms.specs.Stores.{Store, Answers, Follows, gave, refused}
+use Rattle.outcome_terms.specs.Stores.{Answers, Follows, gave, refused}
+use Rattle.records.specs.Events.{Event}
+use Rattle.records.specs.Stores.{Store}
 use Rattle.outcome_terms.specs.Along.{along}
 use Rattle.outcome_terms.specs.TitleCommand.{with_variant, title_made, told_title}
 use Rattle.outcome_terms.proofs.Readings.{goes_on, stops}
@@ -63,10 +65,11 @@ not_titled d p first e s u markable is stopped =
 
 -- ---- where the blobs are told
 
-pub held_by : (d : Design) (p : Playlist) (told : Option Blobs) (counts : Tally) (u : Store) (answer : Result Title Refusal) → Follows (title_made d p) (record { told = told; counts = counts }) u answer
+pub held_by : (d : Design) (p : Playlist) (told : Option Blobs) (counts : Tally) (events : List Event) (u : Store) (answer : Result Title Refusal)
+    → Follows (title_made d p) (record { told = told; counts = counts; events = events }) u answer
     → IfSome told (λ blobs. Answers answer (told_title d (made BLOB_LIMIT blobs d p)))
-held_by d p None counts u answer follows = tt
-held_by d p (Some blobs) counts u answer follows = subst (Answers answer) (title_given blobs d p) (decided blobs refl follows)
+held_by d p None counts events u answer follows = tt
+held_by d p (Some blobs) counts events u answer follows = subst (Answers answer) (title_given blobs d p) (decided blobs refl follows)
 
 pub told_stays : (d : Design) (p : Playlist) (s u : Store) (answer : Result Title Refusal) → Follows (title_made d p) s u answer → u.told ≡ s.told
 told_stays d p s u answer follows = kept follows

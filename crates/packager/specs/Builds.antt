@@ -7,7 +7,8 @@ use Rattle.title_store.specs.Cells.{filled}
 use Rattle.title_store.specs.Builds.{Build, is_full}
 use Rattle.packaging_terms.specs.Variants.{variants}
 use Rattle.outcome_terms.specs.Reading.{Give}
-use Rattle.outcome_terms.specs.Stores.{Store, Settles, Reads, Follows}
+use Rattle.outcome_terms.specs.Stores.{Settles, Reads, Follows}
+use Rattle.records.specs.Stores.{Store}
 use Rattle.outcome_terms.specs.Along.{along}
 use Rattle.outcome_terms.specs.TitleCommand.{with_digest, with_variant}
 use Rattle.packager.specs.declared.errors.PackError.{PackError}

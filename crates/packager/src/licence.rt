@@ -6,10 +6,10 @@ ghost use Rattle.packager.specs.Licences.{LicensesAs};
 use crate::errors::PlaylistFailure;
 use code_terms::Message;
 use lic_register::Register;
-use steps::{Ledger, Steps};
+use steps::{Looks, Steps};
 
 /// The message of the licensee with this serial, who holds the licence still. It takes no memory.
-pub(crate) fn licence<Q: Ledger>(
+pub(crate) fn licence<Q: Looks>(
     register: &Register,
     serial: u32,
     looks: &mut Steps<Q>,

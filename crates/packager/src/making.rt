@@ -5,7 +5,7 @@ ghost use Rattle.text_terms.specs.Names.{is_name};
 ghost use Rattle.title_terms.specs.Designs.{IsDesign, places, symbols};
 ghost use Rattle.title_terms.specs.Titles.{cell_of};
 ghost use Rattle.packaging_terms.specs.Making.{made};
-ghost use Rattle.outcome_terms.specs.Stores.{Answers, Follows, store};
+ghost use Rattle.outcome_terms.specs.Stores.{Answers, Follows};
 ghost use Rattle.outcome_terms.specs.TitleCommand.{title_made, told_title};
 ghost use Rattle.packager.specs.Builds.{AddsAs, FillsAs, HashesAs, IsBegun, PutsAs};
 ghost use Rattle.packager.specs.Refusals.{told_by};
@@ -28,12 +28,12 @@ pub fn make_title<S: Shelf>(
     design: Design,
     source: MediaList,
 ) -> Result<Title, PackError>
-    ensures made { Follows (title_made design source) (store S.holds S.counts shelf.old)
-        (store S.holds S.counts shelf.new) (told_by (λ title. title) result) }
+    ensures made { Follows (title_made design source) (S.store shelf.old)
+        (S.store shelf.new) (told_by (λ title. title) result) }
     // Where the blobs are told: the title of the held variants, or the first thing in order that stands in the way.
-    ensures held { IfSome (S.holds shelf.old) (λ blobs. Answers (told_by (λ title. title) result)
+    ensures held { IfSome (S.store shelf.old).told (λ blobs. Answers (told_by (λ title. title) result)
         (told_title design (made BLOB_LIMIT blobs design source))) }
-    ensures same { S.holds shelf.new ≡ S.holds shelf.old }
+    ensures same { (S.store shelf.new).told ≡ (S.store shelf.old).told }
 {
     titled(alloc, shelf, design, source)
 }
@@ -45,8 +45,8 @@ fn titled<S: Shelf>(
     design: Design,
     source: MediaList,
 ) -> Result<Title, PackError>
-    ensures { Follows (title_made design source) (store S.holds S.counts shelf.old)
-        (store S.holds S.counts shelf.new) (told_by (λ title. title) result) }
+    ensures { Follows (title_made design source) (S.store shelf.old)
+        (S.store shelf.new) (told_by (λ title. title) result) }
 {
     let places = design.places();
     let symbols = design.symbols();
@@ -73,8 +73,8 @@ fn add_variants<S: Shelf>(
     requires begun { IsBegun builder.old 0 }
     requires places { place_count ≡ places builder.old.design }
     requires symbols { symbol_count ≡ symbols builder.old.design }
-    ensures { FillsAs result builder.old builder.new (store S.holds S.counts shelf.old)
-        (store S.holds S.counts shelf.new) }
+    ensures { FillsAs result builder.old builder.new (S.store shelf.old)
+        (S.store shelf.new) }
 {
     'variants: for variant in 0..place_count * symbol_count {
         match add_variant(alloc, shelf, builder, variant, symbol_count) {
@@ -97,8 +97,8 @@ fn add_variant<S: Shelf>(
     requires begun { IsBegun builder.old variant }
     requires inside { variant < places builder.old.design * symbols builder.old.design }
     requires symbols { symbol_count ≡ symbols builder.old.design }
-    ensures { AddsAs result builder.old builder.new variant (store S.holds S.counts shelf.old)
-        (store S.holds S.counts shelf.new) }
+    ensures { AddsAs result builder.old builder.new variant (S.store shelf.old)
+        (S.store shelf.new) }
 {
     let place = variant / symbol_count;
     let symbol = (variant % symbol_count) as u8;
@@ -114,8 +114,8 @@ fn add_variant<S: Shelf>(
 /// The digest of the blob under a name.
 fn digest_under<S: Shelf>(alloc: Global, shelf: &mut S, name: &str) -> Result<Digest, PackError>
     requires { IsTrue (is_name name.now) }
-    ensures { HashesAs name.now (store S.holds S.counts shelf.old)
-        (store S.holds S.counts shelf.new)
+    ensures { HashesAs name.now (S.store shelf.old)
+        (S.store shelf.new)
         result }
 {
     match digest_of(alloc, shelf, name) {

@@ -13,11 +13,12 @@ use crate::licence::licence;
 use crate::marking::marked_list;
 use crate::symbols::symbols_of;
 use code_terms::Message;
-use gf2m::{Field, Ledger, Steps};
+use gf2m::Field;
 use lic_register::Register;
 use lists::Memory;
 use m3u8_text::write;
 use std::alloc::Global;
+use steps::{Looks, Products, Steps};
 use title_store::Title;
 
 /// Whether the title and the register are of the same code.
@@ -31,7 +32,7 @@ pub fn fits(title: &Title, register: &Register) -> bool
 /// marked segment. `F` is the field of the title's symbols.
 ///
 /// The products are at most the places times the symbols of a message, and the looks at most two.
-pub fn playlist<F: Field, P: Ledger, Q: Ledger>(
+pub fn playlist<F: Field, P: Products, Q: Looks>(
     alloc: Global,
     title: &Title,
     register: &Register,
@@ -64,7 +65,7 @@ pub fn playlist<F: Field, P: Ledger, Q: Ledger>(
 }
 
 /// The text of the playlist for the message of this serial.
-fn text_for<F: Field, P: Ledger>(
+fn text_for<F: Field, P: Products>(
     alloc: Global,
     title: &Title,
     register: &Register,

@@ -6,14 +6,14 @@ ghost use Rattle.title_terms.specs.Designs.{places};
 ghost use Rattle.title_terms.specs.Titles.{IsTitle};
 
 use code_terms::Message;
-use gf2m::{Field, Ledger, Steps};
+use gf2m::{Field, Products, Steps};
 use lists::Memory;
 use rs_code::{Code, Word};
 use std::alloc::Global;
 use title_store::Title;
 
 /// The symbols of a message at the places of the title, in order.
-pub(crate) fn symbols_of<F: Field, P: Ledger>(
+pub(crate) fn symbols_of<F: Field, P: Products>(
     alloc: Global,
     title: &Title,
     message: Message,

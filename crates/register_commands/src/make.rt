@@ -7,11 +7,11 @@ ghost use Rattle.outcome_terms.specs.Stores.{Exactly, Settles, seen};
 use lic_register::Register;
 use outcome_terms::{Fault, Refusal};
 use std::alloc::Global;
-use steps::{Ledger, Steps};
+use steps::{Looks, Steps};
 
 /// The text of a register without licensees. A number past 32 bits breaks the rule on it like any other.
 #[tactic(auto, unfolding(outcome_terms::specs::RegisterCommand::make))]
-pub fn register_text<Q: Ledger>(
+pub fn register_text<Q: Looks>(
     alloc: Global,
     m: u128,
     k: u128,

@@ -3,7 +3,7 @@
 ghost use Rattle.std.specs.Prelude.{◌≡◌, IsTrue};
 ghost use Rattle.text_terms.specs.Names.{is_name};
 ghost use Rattle.outcome_terms.specs.WithdrawCommand.{withdraw, withdrawn};
-ghost use Rattle.outcome_terms.specs.Stores.{Exactly, Follows, Settles, seen, store};
+ghost use Rattle.outcome_terms.specs.Stores.{Exactly, Follows, Settles, seen};
 
 use command_io::register_under;
 use lic_register::{Register, WithdrawError};
@@ -11,11 +11,11 @@ use lists::Text;
 use outcome_terms::{Fault, Refusal};
 use shelf_io::Shelf;
 use std::alloc::Global;
-use steps::{Ledger, Steps};
+use steps::{Looks, Steps};
 
 /// The text of the register with the licensee withdrawn.
 #[tactic(auto, using(outcome_terms::proofs::Readings::reading_rules), unfolding(outcome_terms::specs::WithdrawCommand::withdraw))]
-pub fn withdrawn_text<S: Shelf, Q: Ledger>(
+pub fn withdrawn_text<S: Shelf, Q: Looks>(
     alloc: Global,
     shelf: &mut S,
     register: &str,
@@ -24,8 +24,8 @@ pub fn withdrawn_text<S: Shelf, Q: Ledger>(
     looks: &mut Steps<Q>,
 ) -> Result<Vec<u8>, Refusal>
     requires { IsTrue (is_name register.now) }
-    ensures { Follows (withdraw register.now name.now out.now) (store S.holds S.counts shelf.old)
-        (store S.holds S.counts shelf.new)
+    ensures { Follows (withdraw register.now name.now out.now) (S.store shelf.old)
+        (S.store shelf.new)
         (seen (λ text. Exactly text.items) result) }
 {
     if out == register {
@@ -38,7 +38,7 @@ pub fn withdrawn_text<S: Shelf, Q: Ledger>(
 
 /// Withdraws the licensee of this name.
 #[tactic(auto, unfolding(outcome_terms::specs::WithdrawCommand::withdrawn))]
-fn withdraw<Q: Ledger>(
+fn withdraw<Q: Looks>(
     alloc: Global,
     register: &mut Register,
     name: &str,

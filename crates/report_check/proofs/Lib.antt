@@ -1,3 +1,4 @@
+pub mod StepSums
 pub mod Licensees
 pub mod PlaceWalks
 pub mod SerialWalks

@@ -1,11 +1,12 @@
 //! Those who are missing in the list.
 
-ghost use Rattle.std.specs.Prelude.{◌≡◌, ℕ, ◌<◌, ◌≤◌, List, Option, length, true, drop, IsTrue};
+ghost use Rattle.std.specs.Prelude.{◌≡◌, ℕ, ◌+◌, ◌<◌, ◌≤◌, List, Option, length, true, drop, IsTrue};
 ghost use Rattle.decoding_terms.specs.Parameters.{is_allowed_bound};
 ghost use Rattle.desk_terms.specs.Findings.{is_accused};
 ghost use Rattle.desk_terms.specs.Roll.{roll_of};
 ghost use Rattle.report_terms.specs.Verdicts.{first_missed};
 ghost use Rattle.report_check.specs.Shown.{AreRows, AreSlots};
+ghost use Rattle.report_check.specs.Bounds.{rows_bound};
 ghost use Rattle.report_check.specs.Walks.{Ascend, is_next, position_after};
 
 use crate::listed::message_at;
@@ -15,11 +16,11 @@ use desk_terms::Accused;
 use gf2m::Field;
 use lic_register::Register;
 use rs_code::{Code, Word};
-use steps::{Ledger, Steps};
+use steps::{Looks, Products, Steps};
 
 /// The serial of the first licensee who meets the threshold and is not in the list. It walks the register once, and the list
 /// beside it. Before that it makes the rows of the code, so that no product is left for the walk.
-pub(crate) fn first_missed<F: Field, P: Ledger, Q: Ledger>(
+pub(crate) fn first_missed<F: Field, P: Products, Q: Looks>(
     accused: &[Accused],
     register: &Register,
     code: &Code<F>,
@@ -33,7 +34,10 @@ pub(crate) fn first_missed<F: Field, P: Ledger, Q: Ledger>(
     requires length { length word.now ≡ code.now.places }
     requires bound { is_allowed_bound code.now.dimension bound ≡ true }
     requires order { Ascend 0 accused.now }
-    ensures { result ≡ first_missed (roll_of register.now) word.now bound accused.now }
+    ensures missed { result ≡ first_missed (roll_of register.now) word.now bound accused.now }
+    ensures products { prods.new
+        ≤ prods.old + rows_bound F.BITS code.now.places code.now.dimension }
+    ensures looks { looks.new ≤ looks.old + length register.now.licensees }
 {
     let rows = Rows::of(code, prods);
     let slots = Slots::of(word);
@@ -50,7 +54,7 @@ pub(crate) fn first_missed<F: Field, P: Ledger, Q: Ledger>(
 }
 
 /// The position in the list behind the licensee of this serial; `None` where the licensee is missing there.
-fn position_after<Q: Ledger>(
+fn position_after<Q: Looks>(
     accused: &[Accused],
     position: usize,
     serial: u32,
@@ -62,12 +66,13 @@ fn position_after<Q: Ledger>(
 ) -> Option<usize>
     requires bound { bound ≤ 8 }
     requires serial { serial < length register.now.licensees }
-    ensures { (word : List (Option ℕ))
+    ensures position { (word : List (Option ℕ))
         → AreRows register.now.bits register.now.dimension (length word) rows.now.digits
         rows.now.rows
         → AreSlots word slots.now.places slots.now.readable slots.now.symbols slots.now.known
         → result ≡ position_after (drop position accused.now) position serial
         (is_accused (roll_of register.now) word bound serial) }
+    ensures looks { looks.new ≤ looks.old + 1 }
 {
     if is_next(accused, position, serial) {
         return Some(position + 1);
@@ -80,7 +85,7 @@ fn position_after<Q: Ledger>(
 }
 
 /// Whether the licensee of this serial meets the threshold of this bound.
-fn meets<Q: Ledger>(
+fn meets<Q: Looks>(
     serial: u32,
     register: &Register,
     rows: &Rows,
@@ -90,11 +95,12 @@ fn meets<Q: Ledger>(
 ) -> bool
     requires bound { bound ≤ 8 }
     requires serial { serial < length register.now.licensees }
-    ensures { (word : List (Option ℕ))
+    ensures accused { (word : List (Option ℕ))
         → AreRows register.now.bits register.now.dimension (length word) rows.now.digits
         rows.now.rows
         → AreSlots word slots.now.places slots.now.readable slots.now.symbols slots.now.known
         → result ≡ is_accused (roll_of register.now) word bound serial }
+    ensures looks { looks.new ≤ looks.old + 1 }
 {
     let message = message_at(register, serial, looks).unwrap();
     slots.meets(&rows.symbols_of(message), bound)

@@ -1,6 +1,6 @@
 //! Where a message and a word agree, counted without taking memory.
 
-ghost use Rattle.std.specs.Prelude.{◌≡◌, ◌*◌, ◌^◌, ◌<◌, length, true, drop};
+ghost use Rattle.std.specs.Prelude.{◌≡◌, ◌+◌, ◌*◌, ◌^◌, ◌<◌, ◌≤◌, length, true, drop};
 ghost use Rattle.std.specs.Str.{bytes_eq};
 ghost use Rattle.code_terms.specs.Words.{agrees, places_of};
 ghost use Rattle.decoder_terms.specs.Decoding.{meets_threshold};
@@ -10,10 +10,10 @@ ghost use Rattle.report_check.specs.Walks.{place_after};
 use code_terms::Message;
 use gf2m::Field;
 use rs_code::{Code, Word};
-use steps::{Ledger, Steps};
+use steps::{Products, Steps};
 
 /// Whether these are all places where the message and the word agree, in ascending order.
-pub(crate) fn has_places<F: Field, P: Ledger>(
+pub(crate) fn has_places<F: Field, P: Products>(
     places: &[u16],
     message: Message,
     code: &Code<F>,
@@ -22,8 +22,9 @@ pub(crate) fn has_places<F: Field, P: Ledger>(
 ) -> bool
     requires length { length word.now ≡ code.now.places }
     requires message { message < 2 ^ (F.BITS * code.now.dimension) }
-    ensures { result
+    ensures value { result
         ≡ bytes_eq places.now (places_of F.BITS code.now.dimension message word.now) }
+    ensures products { prods.new ≤ prods.old + code.now.places * code.now.dimension }
 {
     let mut position = 0;
     'places: for place in 0..code.n() {
@@ -37,7 +38,7 @@ pub(crate) fn has_places<F: Field, P: Ledger>(
 
 /// The position in the list behind this place of the word; `None` where message and word agree there and the list has another
 /// place or none.
-fn place_after<F: Field, P: Ledger>(
+fn place_after<F: Field, P: Products>(
     places: &[u16],
     position: usize,
     place: u32,
@@ -48,8 +49,9 @@ fn place_after<F: Field, P: Ledger>(
 ) -> Option<usize>
     requires place { place < code.now.places }
     requires message { message < 2 ^ (F.BITS * code.now.dimension) }
-    ensures { result ≡ place_after (drop position places.now) position
+    ensures position { result ≡ place_after (drop position places.now) position
         (agrees F.BITS code.now.dimension message word.now place) place }
+    ensures products { prods.new ≤ prods.old + code.now.dimension }
 {
     if !agrees(message, code, word, place, prods) {
         return Some(position);
@@ -61,7 +63,7 @@ fn place_after<F: Field, P: Ledger>(
 }
 
 /// Whether the word has the message's symbol at this place.
-fn agrees<F: Field, P: Ledger>(
+fn agrees<F: Field, P: Products>(
     message: Message,
     code: &Code<F>,
     word: &Word,
@@ -70,7 +72,8 @@ fn agrees<F: Field, P: Ledger>(
 ) -> bool
     requires place { place < code.now.places }
     requires message { message < 2 ^ (F.BITS * code.now.dimension) }
-    ensures { result ≡ agrees F.BITS code.now.dimension message word.now place }
+    ensures value { result ≡ agrees F.BITS code.now.dimension message word.now place }
+    ensures products { prods.new ≤ prods.old + code.now.dimension }
 {
     match word.get(place) {
         Some(symbol) => symbol == code.symbol(message, place, prods).to(),
@@ -79,7 +82,7 @@ fn agrees<F: Field, P: Ledger>(
 }
 
 /// Whether the message meets the threshold of this bound.
-pub(crate) fn meets<F: Field, P: Ledger>(
+pub(crate) fn meets<F: Field, P: Products>(
     message: Message,
     code: &Code<F>,
     word: &Word,
@@ -89,7 +92,8 @@ pub(crate) fn meets<F: Field, P: Ledger>(
     requires length { length word.now ≡ code.now.places }
     requires message { message < 2 ^ (F.BITS * code.now.dimension) }
     requires bound { is_allowed_bound code.now.dimension bound ≡ true }
-    ensures { result ≡ meets_threshold F.BITS code.now.dimension word.now bound message }
+    ensures value { result ≡ meets_threshold F.BITS code.now.dimension word.now bound message }
+    ensures products { prods.new ≤ prods.old + code.now.places * code.now.dimension }
 {
     let _places = word.len();
     let agreement = code.agreement(message, word, prods);

@@ -3,13 +3,14 @@
 //! The digits are those to the base 16. The symbols of a message are the exclusive or of those of its digits, each with as many
 //! zeros behind it as in the message.
 
-ghost use Rattle.std.specs.Prelude.{◌≡◌, ℕ, ◌*◌, ◌^◌, ◌<◌, ◌≤◌, bit_xor, slice_index};
+ghost use Rattle.std.specs.Prelude.{◌≡◌, ℕ, ◌+◌, ◌*◌, ◌^◌, ◌<◌, ◌≤◌, bit_xor, slice_index};
+ghost use Rattle.report_check.specs.Bounds.{rows_bound};
 ghost use Rattle.report_check.specs.Shown.{AreRows, HasRows, HasSymbols, message_of_row};
 
 use code_terms::Message;
 use gf2m::Field;
 use rs_code::Code;
-use steps::{Ledger, Steps};
+use steps::{Products, Steps};
 
 /// The most places of a word.
 pub(crate) const PLACES: usize = 256;
@@ -27,8 +28,10 @@ pub(crate) struct Rows {
 
 impl Rows {
     /// The rows of a code.
-    pub(crate) fn of<F: Field, P: Ledger>(code: &Code<F>, prods: &mut Steps<P>) -> Rows
-        ensures { AreRows F.BITS code.now.dimension code.now.places result.digits result.rows }
+    pub(crate) fn of<F: Field, P: Products>(code: &Code<F>, prods: &mut Steps<P>) -> Rows
+        ensures rows { AreRows F.BITS code.now.dimension code.now.places result.digits result.rows }
+        ensures products { prods.new
+            ≤ prods.old + rows_bound F.BITS code.now.places code.now.dimension }
     {
         let mut rows = Rows {
             digits: (F::BITS * code.k()).div_ceil(4),
@@ -55,14 +58,16 @@ impl Rows {
 }
 
 /// Writes the rows of so many digits.
-fn fill_rows<F: Field, P: Ledger>(
+fn fill_rows<F: Field, P: Products>(
     code: &Code<F>,
     digits: u32,
     rows: &mut [[u8; PLACES]; ROWS],
     prods: &mut Steps<P>,
 )
     requires { digits ≤ 26 }
-    ensures { HasRows F.BITS code.now.dimension code.now.places (16 * digits) rows.new }
+    ensures rows { HasRows F.BITS code.now.dimension code.now.places (16 * digits) rows.new }
+    ensures products { prods.new
+        ≤ prods.old + 16 * digits * (code.now.places * code.now.dimension) }
 {
     let count = message_count(code);
     for index in 0..16 * digits {
@@ -89,14 +94,15 @@ fn number_of_row(index: u32) -> u128
 }
 
 /// Writes the symbols of one message.
-fn fill_row<F: Field, P: Ledger>(
+fn fill_row<F: Field, P: Products>(
     code: &Code<F>,
     message: Message,
     row: &mut [u8; PLACES],
     prods: &mut Steps<P>,
 )
     requires { message < 2 ^ (F.BITS * code.now.dimension) }
-    ensures { HasSymbols F.BITS code.now.dimension message code.now.places row.new }
+    ensures symbols { HasSymbols F.BITS code.now.dimension message code.now.places row.new }
+    ensures products { prods.new ≤ prods.old + code.now.places * code.now.dimension }
 {
     for place in 0..code.n() {
         row[place as usize] = code.symbol(message, place, prods).to();

@@ -8,12 +8,12 @@ ghost use Rattle.bi_poly.specs.Results.{shift_bound};
 ghost use Rattle.root_terms.specs.Branches.{IsBranch, IsReduced, IsReduction, at_zero};
 
 use bi_poly::BiPoly;
-use gf2m::{Field, Ledger, Steps};
+use gf2m::{Field, Products, Steps};
 use lists::Memory;
 
 /// What is left of Q(x, c + x y), for a root c of Q(0, y), when the greatest power of x is divided out.
 /// The only error is want of memory.
-pub fn branch<F: Field, P: Ledger>(
+pub fn branch<F: Field, P: Products>(
     q: &BiPoly<F>,
     constant: F,
     prods: &mut Steps<P>,

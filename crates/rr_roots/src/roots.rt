@@ -9,7 +9,7 @@ use crate::branches::reduction;
 use crate::numbers::{numbered, roots_of, sort_by_number};
 use crate::search::root_lists;
 use bi_poly::BiPoly;
-use gf2m::{Elements, Field, Items, Ledger, Steps};
+use gf2m::{Elements, Field, Items, Products, Steps};
 use lists::Memory;
 use std::alloc::Global;
 use uni_poly::PolyList;
@@ -19,7 +19,7 @@ use uni_poly::PolyList;
 ///
 /// The search is that of Roth and Ruckenstein (2000). For the products, y stands for one more than the greatest power of y,
 /// and e for any number above the weight in which y counts as k - 1.
-pub fn poly_roots<F: Field, P: Ledger>(
+pub fn poly_roots<F: Field, P: Products>(
     alloc: Global,
     q: &BiPoly<F>,
     k: u32,
@@ -42,7 +42,7 @@ pub fn poly_roots<F: Field, P: Ledger>(
 }
 
 /// All y-roots as lists of k coefficients, in the order in which they are found.
-fn all_lists<F: Field, P: Ledger>(
+fn all_lists<F: Field, P: Products>(
     alloc: Global,
     q: &BiPoly<F>,
     k: u32,

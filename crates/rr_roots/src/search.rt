@@ -7,12 +7,12 @@ ghost use Rattle.root_terms.specs.YRoots.{AreYRootLists};
 
 use crate::branches::{branch, vanishes_at_zero};
 use bi_poly::BiPoly;
-use gf2m::{Elements, Field, Items, Ledger, Steps};
+use gf2m::{Elements, Field, Items, Products, Steps};
 use lists::Memory;
 use std::alloc::Global;
 
 /// The y-roots with at most `count` coefficients, as lists of so many coefficients. The only error is want of memory.
-pub fn root_lists<F: Field, P: Ledger>(
+pub fn root_lists<F: Field, P: Products>(
     alloc: Global,
     q: &BiPoly<F>,
     count: u32,

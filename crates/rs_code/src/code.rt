@@ -9,7 +9,7 @@ use crate::Places;
 use crate::code_error::CodeError;
 use crate::word::{Word, append};
 use code_terms::Message;
-use gf2m::{Elements, Field, Ledger, Steps};
+use gf2m::{Elements, Field, Products, Steps};
 use lists::{Items, Memory};
 use std::alloc::{AllocError, Global};
 use std::marker::{Model, PhantomData};
@@ -78,7 +78,7 @@ impl<F: Field> Code<F> {
     }
 
     /// The message's symbol at this place, by nested products from the last coefficient to the first.
-    pub fn symbol<P: Ledger>(&self, message: Message, place: u32, prods: &mut Steps<P>) -> F
+    pub fn symbol<P: Products>(&self, message: Message, place: u32, prods: &mut Steps<P>) -> F
         requires place { place < self.now.places }
         requires message { message < 2 ^ (F.BITS * self.now.dimension) }
         ensures value { F.number result ≡ symbol_of F.BITS self.now.dimension message place }
@@ -94,7 +94,7 @@ impl<F: Field> Code<F> {
     }
 
     /// In how many places the message and the word agree.
-    pub fn agreement<P: Ledger>(&self, message: Message, word: &Word, prods: &mut Steps<P>) -> u32
+    pub fn agreement<P: Products>(&self, message: Message, word: &Word, prods: &mut Steps<P>) -> u32
         requires length { length word.now ≡ self.now.places }
         requires message { message < 2 ^ (F.BITS * self.now.dimension) }
         ensures value { result ≡ agreement_of F.BITS self.now.dimension message word.now }
@@ -110,7 +110,7 @@ impl<F: Field> Code<F> {
     }
 
     /// The places where the message and the word agree, in ascending order.
-    pub fn places<P: Ledger>(
+    pub fn places<P: Products>(
         &self,
         alloc: Global,
         message: Message,
@@ -132,7 +132,7 @@ impl<F: Field> Code<F> {
     }
 
     /// The message's symbols at all places, in order.
-    pub fn codeword<P: Ledger>(
+    pub fn codeword<P: Products>(
         &self,
         alloc: Global,
         message: Message,
@@ -164,7 +164,7 @@ impl<F: Field> Code<F> {
     }
 
     /// Whether the word has the message's symbol at this place.
-    fn agrees<P: Ledger>(
+    fn agrees<P: Products>(
         &self,
         message: Message,
         word: &Word,

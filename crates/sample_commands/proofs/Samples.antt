@@ -11,11 +11,12 @@ use Rattle.outcome_terms.specs.declared.status.Status.{Status}
 use Rattle.outcome_terms.specs.declared.status.Status.TheVariants as status
 use Rattle.outcome_terms.specs.declared.refusal.Refusal.{Refusal}
 use Rattle.outcome_terms.specs.Reading.{understood}
-use Rattle.outcome_terms.specs.Stores.{Store, Follows, gave}
+use Rattle.outcome_terms.specs.Stores.{Follows, gave}
+use Rattle.records.specs.Stores.{Store, Output}
 use Rattle.outcome_terms.specs.SampleCommand.{same_digest, sample}
 use Rattle.outcome_terms.specs.Commands.{Put}
 use Rattle.outcome_terms.specs.Outcome.{Performs, made, not_made}
-use Rattle.outcome_terms.specs.Output.{Output, Delivers, PutFailed}
+use Rattle.outcome_terms.specs.Output.{Delivers, PutFailed}
 use Rattle.outcome_terms.specs.Call.{TellsWhole}
 use Rattle.outcome_terms.proofs.Calls.{ends_with, refusal_not_done, whole_told}
 use Rattle.sample_commands.specs.Samples.{SumsUp}

@@ -4,17 +4,17 @@ ghost use Rattle.std.specs.Prelude.{◌≡◌};
 ghost use Rattle.outcome_terms.specs.SampleCommand.{sample, sample_trace};
 ghost use Rattle.outcome_terms.specs.Stores.{Settles, seen};
 ghost use Rattle.outcome_terms.specs.Traces.{IsWithin};
-ghost use Rattle.trace_commands.specs.Costs.{curve_costs};
+ghost use Rattle.trace_costs.specs.Costs.{curve_costs};
 ghost use Rattle.sample_commands.specs.Refusals.{HasSymbols, refused_as};
 
 use gs_params::Interpolate;
 use outcome_terms::{Fault, Refusal};
 use sample_maker::{SampleError, sample};
 use std::alloc::Global;
-use steps::{Ledger, Steps};
+use steps::{Looks, Products, Steps};
 
 /// The line that sums the sample of this number up. It reads no blob.
-pub fn sample_text<I: Interpolate, P: Ledger, Q: Ledger>(
+pub fn sample_text<I: Interpolate, P: Products, Q: Looks>(
     alloc: Global,
     number: u64,
     by: &I,

@@ -4,16 +4,17 @@ ghost use Rattle.std.specs.Prelude.{◌≡◌, ◌+◌, ◌<◌, ◌≤◌, IfOk
 ghost use Rattle.sample_terms.specs.Inputs.{register_of, title_of};
 ghost use Rattle.sample_maker.specs.Copying.{list_for};
 
-use gf2m::{Gf, Ledger, Steps};
+use gf2m::Gf;
 use lic_register::Register;
 use lists::Memory;
 use m3u8_text::{MediaList, PlaylistError, read};
 use packager::{PlaylistFailure, playlist};
 use std::alloc::Global;
+use steps::{Looks, Products, Steps};
 use title_store::Title;
 
 /// The list that a licensee gets, read again from the text of the playlist.
-pub(crate) fn list_for<P: Ledger, Q: Ledger>(
+pub(crate) fn list_for<P: Products, Q: Looks>(
     alloc: Global,
     number: u64,
     title: &Title,

@@ -21,19 +21,19 @@ use crate::register::register_of;
 use crate::summary::summary;
 use crate::titling::title_over;
 use crate::tracing::findings_of;
-use gf2m::{Ledger, Steps};
 use gs_params::Interpolate;
 use lic_register::Register;
 use lists::Memory;
 use m3u8_text::MediaList;
 use shelf_io::MemShelf;
 use std::alloc::Global;
+use steps::{Looks, Products, Steps};
 use title_store::Title;
 
 /// The summary of the sample of this number: a register of 1,000 licensees, a title of 64 places and a copy that three of them
 /// put together, and whom the desk accuses. It goes the whole way on a store in memory of its own.
 #[tactic(auto, unfolding(sample_terms::specs::Summary::sampled))]
-pub fn sample<I: Interpolate, P: Ledger, Q: Ledger>(
+pub fn sample<I: Interpolate, P: Products, Q: Looks>(
     alloc: Global,
     number: u64,
     by: &I,
@@ -60,7 +60,7 @@ pub fn sample<I: Interpolate, P: Ledger, Q: Ledger>(
 }
 
 /// The summary where no two variants have one digest.
-fn traced<I: Interpolate, P: Ledger, Q: Ledger>(
+fn traced<I: Interpolate, P: Products, Q: Looks>(
     alloc: Global,
     number: u64,
     shelf: &mut MemShelf,
@@ -89,7 +89,7 @@ fn traced<I: Interpolate, P: Ledger, Q: Ledger>(
 }
 
 /// The copy that the three members put together from the playlists that they get.
-fn mixed_copy<P: Ledger, Q: Ledger>(
+fn mixed_copy<P: Products, Q: Looks>(
     alloc: Global,
     number: u64,
     title: &Title,

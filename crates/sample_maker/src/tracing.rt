@@ -8,16 +8,17 @@ ghost use Rattle.desk_terms.specs.Roll.{roll_of};
 ghost use Rattle.list_decode.specs.Answers.{CostsAtMost};
 
 use desk_terms::Findings;
-use gf2m::{Gf, Ledger, Steps};
+use gf2m::Gf;
 use gs_params::Interpolate;
 use lic_register::Register;
 use lists::Memory;
 use rs_code::{Code, Word};
 use std::alloc::Global;
+use steps::{Looks, Products, Steps};
 use trace_desk::accuse;
 
 /// Whom the desk accuses at the bound 3, for a word of 64 places of which 30 are readable.
-pub(crate) fn findings_of<I: Interpolate, P: Ledger, Q: Ledger>(
+pub(crate) fn findings_of<I: Interpolate, P: Products, Q: Looks>(
     alloc: Global,
     register: &Register,
     word: &Word,

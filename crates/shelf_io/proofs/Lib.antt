@@ -2,3 +2,4 @@ pub mod Prefixes
 pub mod BlobMaps
 pub mod KnownBytes
 pub mod Poured
+pub mod Coming

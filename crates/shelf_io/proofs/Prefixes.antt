@@ -3,7 +3,8 @@ use Rattle.std.proofs.Common.{◌≡◌, ◌∙◌, sym, ap, ap₂, subst, ℕ, 
 use Rattle.std.proofs.Math.Seq.{take-add, take-length}
 use Rattle.std.proofs.lemmas.List.{take-take, take_all, length-take, length-drop}
 use Rattle.shelf_terms.specs.Blobs.{Blobs, blob_at, part_of}
-use Rattle.shelf_io.specs.Reads.{HasPart, HoldsLonger}
+use Rattle.records.specs.Agreement.{HoldsLonger}
+use Rattle.shelf_io.specs.Reads.{HasPart}
 
 -- where the blob is told, these bytes are a prefix of it
 pub record IsFront (told : Option Blobs) (name bytes : List ℕ) : Type 0 where

@@ -8,3 +8,4 @@ pub mod MemShelf
 pub mod Folder
 pub mod StdSink
 pub mod Pours
+pub mod Events

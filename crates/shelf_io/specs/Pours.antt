@@ -2,7 +2,9 @@
 use Rattle.std.specs.Prelude.{◌≡◌, ℕ, ◌≤◌, Bool, true, List, [], ◌++◌, length, take, Option, Some, None, Result, Ok, Err, IfSome, ⊤}
 use Rattle.std.specs.Option.{unwrap_or}
 use Rattle.shelf_terms.specs.Blobs.{Blobs, blob_at}
-use Rattle.shelf_io.specs.Reads.{HoldsLonger}
+use Rattle.records.specs.Stores.{Store}
+use Rattle.records.specs.Parts.{Came, IsWhole}
+use Rattle.records.specs.Agreement.{HoldsLonger}
 use Rattle.shelf_io.specs.declared.errors.FetchError.{FetchError}
 use Rattle.shelf_io.specs.declared.errors.FetchError.TheVariants as fetch
 
@@ -20,21 +22,22 @@ pub record HasPoured (old new : List ℕ → Type 0) (told : Option Blobs) (name
   pub adds : Adds old new prefix
   pub is : IfSome told (λ blobs. IsPrefixOf prefix blobs name)
 
--- some bytes came, no more than the limit; where the blobs are told they are the whole blob
-pub record HasPouredWhole (old new : List ℕ → Type 0) (told : Option Blobs) (name : List ℕ) (limit : ℕ) : Type 0 where
+-- some bytes came, no more than the limit: all that the store gave of the name. Where the blobs are told they are the whole blob.
+pub record HasPouredWhole (old new : List ℕ → Type 0) (before after : Store) (name : List ℕ) (limit : ℕ) : Type 0 where
   pub blob : List ℕ
-  pub held : IfSome told (λ blobs. blob_at blobs name ≡ Some blob)
+  pub held : IfSome before.told (λ blobs. blob_at blobs name ≡ Some blob)
   pub within : length blob ≤ limit
+  pub came : Came name before.events after.events (IsWhole name blob)
   pub adds : Adds old new blob
 
 -- By the answer: some bytes within the limit came, which are the whole blob where the blobs are told; or, where they are told, it
 -- is too long, or there is none. After a refusal other than want of memory a prefix of it came.
-abbrev pub PourGives : (List ℕ → Type 0) → (List ℕ → Type 0) → Option Blobs → List ℕ → ℕ → Result (Unit {0}) FetchError → Type 0
-PourGives old new told name limit (Ok _) = HasPouredWhole old new told name limit
-PourGives old new told name limit (Err fetch.Missing) = IfSome told (λ blobs. blob_at blobs name ≡ None) × HasPoured old new told name
-PourGives old new told name limit (Err fetch.TooLong) = IfSome told (λ blobs. HoldsLonger blobs name limit) × HasPoured old new told name
-PourGives old new told name limit (Err fetch.Fault) = HasPoured old new told name
-PourGives old new told name limit (Err fetch.Memory) = ⊤
+abbrev pub PourGives : (List ℕ → Type 0) → (List ℕ → Type 0) → Store → Store → List ℕ → ℕ → Result (Unit {0}) FetchError → Type 0
+PourGives old new before after name limit (Ok _) = HasPouredWhole old new before after name limit
+PourGives old new before after name limit (Err fetch.Missing) = IfSome before.told (λ blobs. blob_at blobs name ≡ None) × HasPoured old new before.told name
+PourGives old new before after name limit (Err fetch.TooLong) = IfSome before.told (λ blobs. HoldsLonger blobs name limit) × HasPoured old new before.told name
+PourGives old new before after name limit (Err fetch.Fault) = HasPoured old new before.told name
+PourGives old new before after name limit (Err fetch.Memory) = ⊤
 
 -- want of memory alone spends a taker
 abbrev pub IsSpentOnlyBefore : Bool → Bool → Result (Unit {0}) FetchError → Type 0

@@ -1,6 +1,7 @@
 -- How a read was answered, and what the answer says of the blobs. This project's own.
-use Rattle.std.specs.Prelude.{◌≡◌, ℕ, ◌<◌, Bool, true, false, List, length, Option, Some, None, Result, Ok, Err, IfSome, ⊤}
+use Rattle.std.specs.Prelude.{◌≡◌, ℕ, Bool, true, false, List, Option, Some, None, Result, Ok, Err, IfSome, ⊤}
 use Rattle.shelf_terms.specs.Blobs.{Blobs, blob_at, part_of}
+use Rattle.records.specs.Agreement.{HoldsLonger}
 use Rattle.shelf_io.specs.declared.errors.ShelfError.{ShelfError}
 use Rattle.shelf_io.specs.declared.errors.ShelfError.TheVariants as shelf
 use Rattle.shelf_io.specs.declared.errors.FetchError.{FetchError}
@@ -34,12 +35,6 @@ fetch_failed _ = false
 abbrev pub fetch_missed : {A : Type 0} → Result A FetchError → Bool
 fetch_missed (Err fetch.Missing) = true
 fetch_missed _ = false
-
--- the blob under the name has more bytes than so many
-pub record HoldsLonger (blobs : Blobs) (name : List ℕ) (limit : ℕ) : Type 0 where
-  pub blob : List ℕ
-  pub held : blob_at blobs name ≡ Some blob
-  pub longer : limit < length blob
 
 -- Where the blobs are told: the whole blob, or that it is too long, or that there is none.
 -- Each answer implies its own condition, and no two of the conditions stand together: so each comes exactly where its condition holds and no part failed.

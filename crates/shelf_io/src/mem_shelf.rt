@@ -6,6 +6,7 @@ ghost use Rattle.text_terms.specs.Names.{is_name};
 ghost use Rattle.shelf_terms.specs.Counts.{no_counts};
 ghost use Rattle.shelf_terms.specs.Causes.{ReadCauses, WriteCauses};
 ghost use Rattle.shelf_io.specs.MemShelf.{after_part, after_write};
+ghost use Rattle.shelf_io.specs.Events.{after_read, after_handing};
 ghost use Rattle.shelf_io.specs.Plan.{fails_next};
 ghost use Rattle.shelf_io.specs.Reads.{PartGives, part_failed, part_missed};
 ghost use Rattle.shelf_io.specs.Writes.{WriteGives, write_failed};
@@ -16,6 +17,7 @@ use crate::counts::Counts;
 use crate::errors::ShelfError;
 use crate::shelf::Shelf;
 use lists::Memory;
+use records::Record;
 use std::alloc::Global;
 use std::collections::BTreeMap;
 use std::marker::Model;
@@ -27,6 +29,7 @@ pub struct MemShelf {
     blobs: BTreeMap<String, Vec<u8>>,
     plan: CallPlan,
     counts: Counts,
+    events: Record,
 }
 
 impl Model for MemShelf {
@@ -37,7 +40,7 @@ impl Model for MemShelf {
 
     ghost coded = { view_code };
 
-    ghost view = { λ s. record { blobs = blobs_of s.blobs.entries; plan = s.plan; counts = s.counts } };
+    ghost view = { λ s. record { blobs = blobs_of s.blobs.entries; plan = s.plan; counts = s.counts; events = s.events.events } };
 }
 
 impl MemShelf {
@@ -48,6 +51,7 @@ impl MemShelf {
           plan = record { failing = []; made = 0 };
           counts
               = no_counts;
+          events = [];
         } }
     {
         MemShelf {
@@ -55,6 +59,7 @@ impl MemShelf {
             blobs: BTreeMap::new(alloc),
             plan: CallPlan::new(alloc),
             counts: Counts::new(),
+            events: Record::new(),
         }
     }
 
@@ -85,9 +90,7 @@ impl MemShelf {
 impl Shelf for MemShelf {
     ghost use Rattle.std.specs.Prelude.{Some};
 
-    ghost holds = { λ s. Some s.blobs };
-
-    ghost counts = { λ s. s.counts };
+    ghost store = { λ s. record { told = Some s.blobs; counts = s.counts; events = s.events } };
 
     /// A call that is to fail does so before anything is looked up.
     fn part(
@@ -107,18 +110,30 @@ impl Shelf for MemShelf {
             (part_missed result) }
         ensures fails { part_failed result ≡ fails_next self.old.plan }
         ensures after { self.new ≡ after_part self.old name.now (part_failed result)
-            (part_missed result) }
+            (part_missed result)
+            (after_read (λ part. part.items) self.old.events name.now from most result) }
+        ensures events { self.new.events
+            ≡ after_read (λ part. part.items) self.old.events name.now from most result }
     {
         if self.plan.next_fails() {
             self.counts.read_failed(name);
+            self.events.failed(name);
             return Err(ShelfError::Fault);
         }
         match find(&self.blobs, name) {
             None => {
                 self.counts.missed();
+                self.events.missed(name);
                 Err(ShelfError::Missing)
             }
-            Some(blob) => Ok(Vec::from_slice(alloc, part_slice(blob, from, most))?),
+            Some(blob) => {
+                let Ok(part) = Vec::from_slice(alloc, part_slice(blob, from, most)) else {
+                    self.events.failed(name);
+                    return Err(ShelfError::Memory);
+                };
+                self.events.gave(name, from, most, part.as_slice());
+                Ok(part)
+            }
         }
     }
 
@@ -131,15 +146,23 @@ impl Shelf for MemShelf {
         ensures causes { WriteCauses self.old.counts self.new.counts (write_failed result) }
         ensures fails { write_failed result ≡ fails_next self.old.plan }
         ensures after { self.new ≡ after_write self.old name.now bytes.now (is_ok result)
-            (write_failed result) }
+            (write_failed result) (after_handing self.old.events name.now bytes.now result) }
+        ensures events { self.new.events ≡ after_handing self.old.events name.now bytes.now result }
     {
         if self.plan.next_fails() {
             self.counts.write_failed();
+            self.events.refused(name, bytes);
             return Err(ShelfError::Fault);
         }
         match store(&mut self.blobs, alloc, name, bytes) {
-            Ok(()) => Ok(()),
-            Err(Memory) => Err(ShelfError::Memory),
+            Ok(()) => {
+                self.events.took(name, bytes);
+                Ok(())
+            }
+            Err(Memory) => {
+                self.events.refused(name, bytes);
+                Err(ShelfError::Memory)
+            }
         }
     }
 }

@@ -3,6 +3,7 @@
 ghost use Rattle.std.specs.Prelude.{◌≡◌, ◌≤◌, ◌++◌, ◌∷◌, [], Err, IsTrue, OnErr, OnOk, is_ok, true, false};
 ghost use Rattle.shelf_terms.specs.Counts.{Rose};
 ghost use Rattle.shelf_io.specs.Plan.{fails_next};
+ghost use Rattle.shelf_io.specs.Events.{after_putting};
 ghost use Rattle.shelf_io.specs.MemSink.{after_put};
 ghost use Rattle.shelf_io.specs.Puts.{PutGives, put_failed};
 
@@ -10,6 +11,7 @@ use crate::call_plan::CallPlan;
 use crate::errors::SinkError;
 use crate::sink::Sink;
 use lists::Memory;
+use records::Record;
 use std::alloc::Global;
 use std::marker::Model;
 
@@ -19,14 +21,17 @@ pub struct MemSink {
     written: Vec<u8>,
     plan: CallPlan,
     faults: u64,
+    events: Record,
 }
 
 impl Model for MemSink {
-    ghost use Rattle.shelf_io.specs.MemSink.{MemSinkView};
+    ghost use Rattle.shelf_io.specs.MemSink.{MemSinkView, sink_code};
 
     ghost Value = { MemSinkView };
 
-    ghost view = { λ s. record { written = s.written.items; plan = s.plan; faults = s.faults } };
+    ghost coded = { sink_code };
+
+    ghost view = { λ s. record { written = s.written.items; plan = s.plan; faults = s.faults; events = s.events.events } };
 }
 
 impl MemSink {
@@ -37,12 +42,14 @@ impl MemSink {
           plan = record { failing = []; made = 0 };
           faults
               = 0;
+          events = [];
         } }
     {
         MemSink {
             written: Vec::new(alloc),
             plan: CallPlan::new(alloc),
             faults: 0,
+            events: Record::new(),
         }
     }
 
@@ -71,25 +78,29 @@ impl MemSink {
 impl Sink for MemSink {
     ghost use Rattle.std.specs.Prelude.{Some};
 
-    ghost written = { λ s. Some s.written };
-
-    ghost faults = { λ s. s.faults };
+    ghost output = { λ s. record { written = Some s.written; faults = s.faults; events = s.events } };
 
     /// A put that is to fail puts the first half of its bytes, rounded down.
     fn put(&mut self, bytes: &[u8]) -> Result<(), SinkError>
         ensures bytes { PutGives (Some self.old.written) (Some self.new.written) bytes.now result }
         ensures faults_stay { self.old.faults ≤ self.new.faults }
         ensures fault { result ≡ Err SinkError.Fault → Rose self.old.faults self.new.faults }
+        ensures events { self.new.events ≡ after_putting self.old.events bytes.now result }
         ensures after { self.new ≡ after_put self.old bytes.now result }
         ensures fails { fails_next self.old.plan ≡ true → is_ok result ≡ false }
         ensures fails_only { fails_next self.old.plan ≡ false → put_failed result ≡ false }
     {
         if self.plan.next_fails() {
+            self.events.refused("", bytes);
             self.written.extend_from_slice(&bytes[..bytes.len() / 2])?;
             self.faults = self.faults.saturating_add(1);
             return Err(SinkError::Fault);
         }
-        self.written.extend_from_slice(bytes)?;
+        let Ok(()) = self.written.extend_from_slice(bytes) else {
+            self.events.refused("", bytes);
+            return Err(SinkError::Memory);
+        };
+        self.events.took("", bytes);
         Ok(())
     }
 }

@@ -3,13 +3,16 @@
 
 ghost use Rattle.std.specs.Prelude.{◌≡◌, ◌+◌, ◌<◌};
 
+mod kinds;
+
+pub use kinds::{LookLedger, Looks, ProductLedger, Products};
 use std::marker::Model;
 pub use std::sync::ledger::Ledger;
 use std::sync::ledger::{Blank, Book, Share};
 
 /// How many steps were taken, which contracts see as a number. It takes no bytes, and only `tick` and `add` change it.
 ///
-/// What one step stands for is said where a counter is handed in: a field product, or a look into a register.
+/// What one step stands for is said by the kind of its ledger: `Products` or `Looks`.
 #[derive(Drop)]
 pub struct Steps<L: Ledger> {
     book: Book<L>,
@@ -28,7 +31,9 @@ impl<L: Ledger> Model for Steps<L> {
 
 impl<L: Ledger> Steps<L> {
     /// A counter at 0 over a ledger that nothing else counts in.
-    pub fn new(blank: Blank) -> Self
+    ///
+    /// It asks for the runtime, which only a program and its tests have: what a library counts, it counts for its caller.
+    pub fn new(_rt: &HostRuntime, blank: Blank) -> Self
         requires name { blank.name ≡ L.name }
         requires parts { blank.parts ≡ L.parts }
         requires some { 0 < L.parts }

@@ -4,11 +4,11 @@ ghost use Rattle.std.specs.Prelude.{◌≡◌, ◌+◌, ◌<◌, ◌≤◌, leng
 ghost use Rattle.algebra.specs.Bivariate.{weight};
 ghost use Rattle.bi_poly.specs.Rows.{ArePowers};
 
-use gf2m::{Field, Ledger, Steps};
+use gf2m::{Field, Products, Steps};
 use std::alloc::{AllocError, Global};
 
 /// The first powers of an element, from the power 0 on.
-pub fn powers<F: Field, P: Ledger>(
+pub fn powers<F: Field, P: Products>(
     alloc: Global,
     element: F,
     count: usize,

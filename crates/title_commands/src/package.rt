@@ -6,7 +6,7 @@ ghost use Rattle.packaging_terms.specs.Licensees.{fits, licensed_text};
 ghost use Rattle.packager.specs.Licences.{IsLicensed, IsWithdrawn};
 ghost use Rattle.packager.specs.declared.errors.PlaylistFailure.TheVariants as failures;
 ghost use Rattle.outcome_terms.specs.PackageCommand.{package_, packaged};
-ghost use Rattle.outcome_terms.specs.Stores.{Exactly, Follows, Settles, seen, store};
+ghost use Rattle.outcome_terms.specs.Stores.{Exactly, Follows, Settles, seen};
 
 use command_io::{over_field, register_under};
 use gf2m::Gf;
@@ -16,13 +16,13 @@ use outcome_terms::{Fault, Refusal};
 use packager::{PlaylistFailure, fits, playlist};
 use shelf_io::Shelf;
 use std::alloc::Global;
-use steps::{Ledger, Steps};
+use steps::{Looks, Products, Steps};
 use title_io::title_under;
 use title_store::Title;
 
 /// The text of the playlist that the licensee of this name gets of a title, by a register of the same code.
 #[tactic(auto, using(outcome_terms::proofs::Readings::reading_rules), unfolding(outcome_terms::specs::PackageCommand::package_))]
-pub fn playlist_text<S: Shelf, P: Ledger, Q: Ledger>(
+pub fn playlist_text<S: Shelf, P: Products, Q: Looks>(
     alloc: Global,
     shelf: &mut S,
     title: &str,
@@ -35,7 +35,7 @@ pub fn playlist_text<S: Shelf, P: Ledger, Q: Ledger>(
     requires title { IsTrue (is_name title.now) }
     requires register { IsTrue (is_name register.now) }
     ensures { Follows (package_ title.now register.now name.now out.now)
-        (store S.holds S.counts shelf.old) (store S.holds S.counts shelf.new)
+        (S.store shelf.old) (S.store shelf.new)
         (seen (λ text. Exactly text.items) result) }
 {
     if out == title || out == register {
@@ -47,7 +47,7 @@ pub fn playlist_text<S: Shelf, P: Ledger, Q: Ledger>(
 }
 
 /// The text of the playlist of this name, or why there is none.
-fn packaged<P: Ledger, Q: Ledger>(
+fn packaged<P: Products, Q: Looks>(
     alloc: Global,
     title: &Title,
     register: &Register,
@@ -81,7 +81,7 @@ fn packaged<P: Ledger, Q: Ledger>(
 }
 
 /// The text of the playlist of this serial, over the field that the title's symbols belong to.
-fn licensed<P: Ledger, Q: Ledger>(
+fn licensed<P: Products, Q: Looks>(
     alloc: Global,
     title: &Title,
     register: &Register,

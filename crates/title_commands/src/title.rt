@@ -2,7 +2,7 @@
 
 ghost use Rattle.std.specs.Prelude.{IsTrue};
 ghost use Rattle.text_terms.specs.Names.{is_name};
-ghost use Rattle.outcome_terms.specs.Stores.{Exactly, Follows, seen, store};
+ghost use Rattle.outcome_terms.specs.Stores.{Exactly, Follows, seen};
 ghost use Rattle.outcome_terms.specs.TitleCommand.{title};
 
 use lists::Text;
@@ -23,8 +23,8 @@ pub fn title_text<S: Shelf>(
 ) -> Result<Vec<u8>, Refusal>
     requires design { IsTrue (is_name design.now) }
     requires source { IsTrue (is_name source.now) }
-    ensures { Follows (title design.now source.now out.now) (store S.holds S.counts shelf.old)
-        (store S.holds S.counts shelf.new)
+    ensures { Follows (title design.now source.now out.now) (S.store shelf.old)
+        (S.store shelf.new)
         (seen (λ text. Exactly text.items) result) }
 {
     if out == design || out == source {

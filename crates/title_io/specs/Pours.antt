@@ -1,7 +1,8 @@
 -- What a reader of bytes stands for after a blob was poured into it. This project's own.
 use Rattle.std.specs.Prelude.{ℕ, List, Result, Ok, Err}
 use Rattle.outcome_terms.specs.declared.refusal.Refusal.{Refusal}
-use Rattle.outcome_terms.specs.Stores.{Store, Reads}
+use Rattle.outcome_terms.specs.Stores.{Reads}
+use Rattle.records.specs.Stores.{Store}
 
 -- the bytes of one read came, and no others
 pub record HasRead (name : List ℕ) (old new : Store) (stands : List ℕ → Type 0) : Type 0 where

@@ -5,7 +5,7 @@ ghost use Rattle.text_terms.specs.Names.{is_name};
 ghost use Rattle.title_terms.specs.DesignText.{design_of};
 ghost use Rattle.outcome_terms.specs.declared.fault.Fault.TheVariants.{BadDesign};
 ghost use Rattle.outcome_terms.specs.Reading.{understood};
-ghost use Rattle.outcome_terms.specs.Stores.{Follows, Settles, store};
+ghost use Rattle.outcome_terms.specs.Stores.{Follows, Settles};
 ghost use Rattle.outcome_terms.specs.TitleCommand.{design_under};
 
 use command_io::bytes_under;
@@ -18,8 +18,8 @@ use std::alloc::Global;
 #[tactic(auto, using(outcome_terms::proofs::Readings::reading_rules), unfolding(outcome_terms::specs::TitleCommand::design_under))]
 pub fn design_under<S: Shelf>(alloc: Global, shelf: &mut S, name: &str) -> Result<Design, Refusal>
     requires { IsTrue (is_name name.now) }
-    ensures { Follows (design_under name.now) (store S.holds S.counts shelf.old)
-        (store S.holds S.counts shelf.new) result }
+    ensures { Follows (design_under name.now) (S.store shelf.old)
+        (S.store shelf.new) result }
 {
     let bytes = bytes_under(alloc, shelf, name)?;
     design_of_bytes(alloc, bytes)

@@ -6,7 +6,7 @@ ghost use Rattle.playlist_terms.specs.Reading.{playlist_of};
 ghost use Rattle.m3u8_text.specs.Readers.{Stands};
 ghost use Rattle.outcome_terms.specs.declared.fault.Fault.TheVariants.{BadPlaylist};
 ghost use Rattle.outcome_terms.specs.Reading.{understood};
-ghost use Rattle.outcome_terms.specs.Stores.{Follows, Settles, store};
+ghost use Rattle.outcome_terms.specs.Stores.{Follows, Settles};
 ghost use Rattle.outcome_terms.specs.TitleCommand.{playlist_under};
 ghost use Rattle.title_io.specs.Pours.{PoursAs};
 
@@ -26,8 +26,8 @@ pub fn playlist_under<S: Shelf>(
     name: &str,
 ) -> Result<MediaList, Refusal>
     requires { IsTrue (is_name name.now) }
-    ensures { Follows (playlist_under name.now) (store S.holds S.counts shelf.old)
-        (store S.holds S.counts shelf.new) result }
+    ensures { Follows (playlist_under name.now) (S.store shelf.old)
+        (S.store shelf.new) result }
 {
     let mut reader = ListReader::new(alloc);
     match poured(alloc, shelf, name, &mut reader) {
@@ -46,7 +46,7 @@ fn poured<S: Shelf>(
     requires name { IsTrue (is_name name.now) }
     requires stands { Stands reader.old [] }
     requires taken { reader.old.taken ≡ 0 }
-    ensures { PoursAs name.now (store S.holds S.counts shelf.old) (store S.holds S.counts shelf.new)
+    ensures { PoursAs name.now (S.store shelf.old) (S.store shelf.new)
         (Stands reader.new) result }
 {
     match pour(alloc, shelf, name, BLOB_LIMIT, reader) {

@@ -5,7 +5,7 @@ ghost use Rattle.text_terms.specs.Names.{is_name};
 ghost use Rattle.title_terms.specs.TitleText.{title_of};
 ghost use Rattle.outcome_terms.specs.declared.fault.Fault.TheVariants.{BadTitle};
 ghost use Rattle.outcome_terms.specs.Reading.{understood};
-ghost use Rattle.outcome_terms.specs.Stores.{Follows, Settles, store};
+ghost use Rattle.outcome_terms.specs.Stores.{Follows, Settles};
 ghost use Rattle.outcome_terms.specs.PackageCommand.{title_under};
 
 use command_io::bytes_under;
@@ -18,8 +18,8 @@ use title_store::{Title, TitleReadError};
 #[tactic(auto, using(outcome_terms::proofs::Readings::reading_rules), unfolding(outcome_terms::specs::PackageCommand::title_under))]
 pub fn title_under<S: Shelf>(alloc: Global, shelf: &mut S, name: &str) -> Result<Title, Refusal>
     requires { IsTrue (is_name name.now) }
-    ensures { Follows (title_under name.now) (store S.holds S.counts shelf.old)
-        (store S.holds S.counts shelf.new) result }
+    ensures { Follows (title_under name.now) (S.store shelf.old)
+        (S.store shelf.new) result }
 {
     let bytes = bytes_under(alloc, shelf, name)?;
     title_of_bytes(alloc, bytes)

@@ -18,7 +18,7 @@ use Rattle.outcome_terms.specs.TraceCommand.{is_served, word_shown, trace_trace}
 use Rattle.outcome_terms.specs.declared.fault.Fault.TheVariants.{BadBound}
 use Rattle.packaging_terms.specs.Licensees.{fits}
 use Rattle.outcome_terms.proofs.Givens.{took, met, was_given}
-use Rattle.trace_commands.specs.Costs.{IsBuilt, built_costs, curve_costs}
+use Rattle.trace_costs.specs.Costs.{IsBuilt, built_costs, curve_costs}
 
 -- no more places are readable than there are
 few_readable : (blobs : Blobs) (register word : List ℕ) (c : ℕ) (trace : Trace) → given blobs (accuse_trace register word c) ≡ Ok trace → trace.readable ≤ trace.places

@@ -10,7 +10,7 @@ use Rattle.outcome_terms.specs.TraceReports.{word_held}
 use Rattle.outcome_terms.specs.CheckCommand.{check}
 use Rattle.outcome_terms.specs.CheckReports.{IsCheckedRight}
 use Rattle.outcome_terms.specs.Outcome.{puts}
-use Rattle.outcome_terms.specs.Output.{Output}
+use Rattle.records.specs.Stores.{Output}
 use Rattle.outcome_terms.specs.Call.{HasEffect, TellsWhole}
 use Rattle.outcome_terms.proofs.CheckHeadlines.{check_done}
 use Rattle.trace_cli.specs.Checked.{IsRight, TellsRight}

@@ -8,7 +8,7 @@ use Rattle.outcome_terms.specs.Stores.{Writing, Exactly}
 use Rattle.outcome_terms.specs.TitleCommand.{title}
 use Rattle.outcome_terms.specs.PackageCommand.{package_}
 use Rattle.outcome_terms.specs.Outcome.{HasWritten, writes}
-use Rattle.outcome_terms.specs.Output.{Output}
+use Rattle.records.specs.Stores.{Output}
 use Rattle.outcome_terms.specs.Call.{HasEffect}
 use Rattle.outcome_terms.proofs.PackagingHeadlines.{title_done, playlist_done}
 use Rattle.trace_cli.specs.Packaged.{WritesTitle, WritesPlaylist}

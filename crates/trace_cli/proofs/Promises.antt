@@ -6,10 +6,10 @@ use Rattle.outcome_terms.specs.declared.status.Status.{Status}
 use Rattle.outcome_terms.specs.declared.status.Status.TheVariants as status
 use Rattle.outcome_terms.specs.declared.refusal.Refusal.{Refusal}
 use Rattle.outcome_terms.specs.Request.{Request, Make, Enrol, Withdraw, MakeTitle, Package, Trace, Check, Accuse, Sample}
-use Rattle.outcome_terms.specs.Stores.{Store}
+use Rattle.records.specs.Stores.{Store, Output}
 use Rattle.outcome_terms.specs.Commands.{deed, request_of}
 use Rattle.outcome_terms.specs.Outcome.{Performs, outcome_of, refused_by_words}
-use Rattle.outcome_terms.specs.Output.{Delivers, Output}
+use Rattle.outcome_terms.specs.Output.{Delivers}
 use Rattle.outcome_terms.specs.Call.{Ends, HasEffect, IsRefused}
 use Rattle.outcome_terms.specs.Reports.{TellsReport}
 use Rattle.outcome_terms.proofs.Calls.{ends_words, ends_effect}

@@ -7,7 +7,7 @@ use Rattle.outcome_terms.specs.Reading.{given}
 use Rattle.outcome_terms.specs.TraceCommand.{trace}
 use Rattle.outcome_terms.specs.TraceReports.{IsTraceReport}
 use Rattle.outcome_terms.specs.Outcome.{puts}
-use Rattle.outcome_terms.specs.Output.{Output}
+use Rattle.records.specs.Stores.{Output}
 use Rattle.outcome_terms.specs.Call.{HasEffect, TellsWhole}
 use Rattle.outcome_terms.proofs.TraceHeadlines.{trace_done}
 use Rattle.copy_reports.specs.TracedCopies.{TellsTraceReport, TracesExplained, TracesPackaged}

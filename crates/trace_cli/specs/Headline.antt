@@ -3,8 +3,7 @@ use Rattle.std.specs.Prelude.{◌≡◌, ◌⊎◌, Option, Some, None, IfSome}
 use Rattle.outcome_terms.specs.declared.status.Status.{Status}
 use Rattle.outcome_terms.specs.declared.status.Status.TheVariants as status
 use Rattle.outcome_terms.specs.Request.{Request, Make, Enrol, Withdraw, MakeTitle, Package, Trace, Check, Accuse, Sample}
-use Rattle.outcome_terms.specs.Stores.{Store}
-use Rattle.outcome_terms.specs.Output.{Output}
+use Rattle.records.specs.Stores.{Store, Output}
 use Rattle.outcome_terms.specs.Reports.{MakesRegister, EnrolsName, WithdrawsName, TellsReport}
 use Rattle.copy_reports.specs.TracedCopies.{TellsTraceReport, TracesExplained, TracesPackaged}
 use Rattle.sample_commands.specs.Samples.{SumsUp}

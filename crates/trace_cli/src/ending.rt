@@ -1,9 +1,10 @@
 //! How a call ends: the answer or the error line is put out, and the status says which.
 
-ghost use Rattle.std.specs.Prelude.{◌≡◌, ◌⊎◌};
+ghost use Rattle.std.specs.Prelude.{◌≡◌, ◌⊎◌, [], ◌∷◌, ◌++◌};
 ghost use Rattle.shelf_terms.specs.Counts.{Rose};
+ghost use Rattle.records.specs.Events.{Took, Refused};
 ghost use Rattle.outcome_terms.specs.Statuses.{refusal_status};
-ghost use Rattle.outcome_terms.specs.Output.{Delivers, TellsAnswer, TellsPrefix, TellsRefusal, memory_line, output};
+ghost use Rattle.outcome_terms.specs.Output.{Delivers, TellsAnswer, TellsPrefix, TellsRefusal, memory_line};
 ghost use Rattle.command_io.specs.Answers.{left_text};
 
 use cli_words::{Status, refusal_line, refusal_status};
@@ -17,8 +18,8 @@ const MEMORY_LINE: &[u8] = b"error 1 memory\n";
 
 /// Puts out what a command left to be put out, or its error line.
 pub fn put_out<O: Sink>(alloc: Global, answer: Result<Done, Refusal>, out: &mut O) -> Status
-    ensures { Delivers (left_text answer) result (output O.written O.faults out.old)
-        (output O.written O.faults out.new) }
+    ensures { Delivers (left_text answer) result (O.output out.old)
+        (O.output out.new) }
 {
     match answer {
         Ok(Done::Written) => Status::Ok,
@@ -30,8 +31,12 @@ pub fn put_out<O: Sink>(alloc: Global, answer: Result<Done, Refusal>, out: &mut 
 /// Puts out the text that a command made.
 fn put_text<O: Sink>(text: &[u8], out: &mut O) -> Status
     ensures ends { (result ≡ Status.Ok)
-        ⊎ (((result ≡ Status.OutFault) × Rose (O.faults out.old) (O.faults out.new)) ⊎ (result ≡ Status.Memory)) }
-    ensures out { TellsAnswer result text.now (O.written out.old) (O.written out.new) }
+        ⊎ (((result ≡ Status.OutFault) × Rose (O.output out.old).faults (O.output out.new).faults) ⊎ (result ≡ Status.Memory)) }
+    ensures out { TellsAnswer result text.now (O.output out.old).written (O.output out.new).written }
+    ensures taken { result ≡ Status.Ok
+        → (O.output out.new).events ≡ (O.output out.old).events ++ Took [] text.now ∷ [] }
+    ensures refused { result ≡ Status.OutFault
+        → (O.output out.new).events ≡ (O.output out.old).events ++ Refused [] text.now ∷ [] }
 {
     match out.put(text) {
         Ok(()) => Status::Ok,
@@ -43,8 +48,8 @@ fn put_text<O: Sink>(text: &[u8], out: &mut O) -> Status
 /// Puts out the error line of a refusal.
 fn put_refusal<O: Sink>(alloc: Global, refusal: &Refusal, out: &mut O) -> Status
     ensures ends { (result ≡ refusal_status refusal.now) ⊎ (result ≡ Status.Memory) }
-    ensures out { TellsRefusal result refusal.now (Rose (O.faults out.old) (O.faults out.new))
-        (O.written out.old) (O.written out.new) }
+    ensures out { TellsRefusal result refusal.now (Rose (O.output out.old).faults (O.output out.new).faults)
+        (O.output out.old).written (O.output out.new).written }
 {
     let Ok(line) = refusal_line(alloc, refusal) else {
         return put_memory_line(out);
@@ -59,7 +64,7 @@ fn put_refusal<O: Sink>(alloc: Global, refusal: &Refusal, out: &mut O) -> Status
 /// Puts out the error line for want of memory.
 fn put_memory_line<O: Sink>(out: &mut O) -> Status
     ensures status { result ≡ Status.Memory }
-    ensures out { TellsPrefix memory_line (O.written out.old) (O.written out.new) }
+    ensures out { TellsPrefix memory_line (O.output out.old).written (O.output out.new).written }
 {
     let _ = out.put(MEMORY_LINE);
     Status::Memory

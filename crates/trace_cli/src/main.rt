@@ -20,7 +20,7 @@ mod usage;
 
 use cli_words::Status;
 use costs::CURVES;
-pub use costs::curves_cost;
+pub use costs::{curves_are_built, curves_cost};
 use lists::Text;
 pub use run_call::run;
 use shelf_io::{FolderShelf, StdSink};
@@ -30,7 +30,7 @@ use std::marker::Brand;
 use std::process::ExitCode;
 use std::sync::ledger::Blank;
 use std::{env, io};
-use steps::{Ledger, Steps};
+use steps::{Ledger, LookLedger, ProductLedger, Steps};
 use usage::show_usage;
 
 /// Does what the arguments say over the files of the current folder, and ends with the status.
@@ -108,10 +108,10 @@ fn counted<P: Ledger, Q: Ledger>(
     let Ok(folder) = Text::of(alloc, ".") else {
         return Status::Memory;
     };
+    let mut prods = Steps::<ProductLedger<P>>::new(&rt, prods);
+    let mut looks = Steps::<LookLedger<Q>>::new(&rt, looks);
     let mut out = StdSink::new(rt.stdout());
     let mut shelf = FolderShelf::new(rt, folder);
-    let mut prods = Steps::<P>::new(prods);
-    let mut looks = Steps::<Q>::new(looks);
     run(
         alloc, words, &mut shelf, &mut out, &CURVES, &mut prods, &mut looks,
     )

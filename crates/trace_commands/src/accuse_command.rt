@@ -5,8 +5,8 @@ ghost use Rattle.text_terms.specs.Names.{is_name};
 ghost use Rattle.decoding_terms.specs.Parameters.{is_allowed_bound};
 ghost use Rattle.outcome_terms.specs.AccuseCommand.{accuse, accuse_trace, allowed};
 ghost use Rattle.outcome_terms.specs.Spending.{Spends};
-ghost use Rattle.outcome_terms.specs.Stores.{Follows, Settles, seen, store};
-ghost use Rattle.trace_commands.specs.Costs.{curve_costs};
+ghost use Rattle.outcome_terms.specs.Stores.{Follows, Settles, seen};
+ghost use Rattle.trace_costs.specs.Costs.{curve_costs};
 
 use crate::reporting::report_on;
 use crate::word::word_under;
@@ -16,11 +16,11 @@ use lic_register::Register;
 use outcome_terms::{Fault, Refusal};
 use shelf_io::Shelf;
 use std::alloc::Global;
-use steps::{Ledger, Steps};
+use steps::{Looks, Products, Steps};
 
 /// The report for the register, the word and the bound.
 #[tactic(auto, using(outcome_terms::proofs::Readings::reading_rules), unfolding(outcome_terms::specs::AccuseCommand::accuse))]
-pub fn accuse<S: Shelf, I: Interpolate, P: Ledger, Q: Ledger>(
+pub fn accuse<S: Shelf, I: Interpolate, P: Products, Q: Looks>(
     alloc: Global,
     shelf: &mut S,
     register: &str,
@@ -32,11 +32,11 @@ pub fn accuse<S: Shelf, I: Interpolate, P: Ledger, Q: Ledger>(
 ) -> Result<Vec<u8>, Refusal>
     requires register { IsTrue (is_name register.now) }
     requires word { IsTrue (is_name word.now) }
-    ensures report { Follows (accuse register.now word.now c) (store S.holds S.counts shelf.old)
-        (store S.holds S.counts shelf.new)
+    ensures report { Follows (accuse register.now word.now c) (S.store shelf.old)
+        (S.store shelf.new)
         (seen (λ text. text.items) result) }
     ensures steps { Spends (curve_costs I.cost) (accuse_trace register.now word.now c)
-        (store S.holds S.counts shelf.old)
+        (S.store shelf.old) (S.store shelf.new)
         (record { products = prods.old; looks = looks.old })
         (record { products = prods.new; looks = looks.new }) }
 {

@@ -5,7 +5,7 @@ ghost use Rattle.code_terms.specs.Words.{HasSymbolsBelow};
 ghost use Rattle.desk_terms.specs.Roll.{roll_of};
 ghost use Rattle.trace_desk.specs.Answers.{TracesAs, tracing};
 ghost use Rattle.outcome_terms.specs.Traces.{IsWithin, trace_at};
-ghost use Rattle.trace_commands.specs.Costs.{curve_costs};
+ghost use Rattle.trace_costs.specs.Costs.{curve_costs};
 
 use command_io::over_field;
 use desk_terms::Findings;
@@ -14,11 +14,11 @@ use gs_params::Interpolate;
 use lic_register::Register;
 use rs_code::{Code, Word};
 use std::alloc::Global;
-use steps::{Ledger, Steps};
+use steps::{Looks, Products, Steps};
 use trace_desk::{DeskError, accuse};
 
 /// What the desk answers for this register.
-pub fn desk_answer<I: Interpolate, P: Ledger, Q: Ledger>(
+pub fn desk_answer<I: Interpolate, P: Products, Q: Looks>(
     alloc: Global,
     register: &Register,
     word: &Word,
@@ -44,7 +44,7 @@ pub fn desk_answer<I: Interpolate, P: Ledger, Q: Ledger>(
 }
 
 /// The same over this field.
-fn answer_over<F: Field, I: Interpolate, P: Ledger, Q: Ledger>(
+fn answer_over<F: Field, I: Interpolate, P: Products, Q: Looks>(
     alloc: Global,
     register: &Register,
     word: &Word,

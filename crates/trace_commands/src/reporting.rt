@@ -6,7 +6,7 @@ ghost use Rattle.decoding_terms.specs.Parameters.{is_allowed_bound};
 ghost use Rattle.outcome_terms.specs.AccuseCommand.{report};
 ghost use Rattle.outcome_terms.specs.Stores.{Settles, seen};
 ghost use Rattle.outcome_terms.specs.Traces.{IsWithin, trace_at};
-ghost use Rattle.trace_commands.specs.Costs.{curve_costs};
+ghost use Rattle.trace_costs.specs.Costs.{curve_costs};
 ghost use Rattle.trace_commands.specs.Refusals.{refused_as};
 
 use crate::desk_call::desk_answer;
@@ -15,12 +15,12 @@ use lic_register::Register;
 use outcome_terms::{Fault, Refusal};
 use rs_code::Word;
 use std::alloc::Global;
-use steps::{Ledger, Steps};
+use steps::{Looks, Products, Steps};
 use trace_desk::DeskError;
 use trace_report::report_text;
 
 /// The report of a word, unless too few of its places can be read.
-pub fn report_on<I: Interpolate, P: Ledger, Q: Ledger>(
+pub fn report_on<I: Interpolate, P: Products, Q: Looks>(
     alloc: Global,
     register: &Register,
     word: &Word,

@@ -7,7 +7,7 @@ ghost use Rattle.code_terms.specs.WordText.{word_of};
 ghost use Rattle.outcome_terms.specs.declared.fault.Fault.TheVariants.{BadWord};
 ghost use Rattle.outcome_terms.specs.Reading.{understood};
 ghost use Rattle.outcome_terms.specs.AccuseCommand.{word_under};
-ghost use Rattle.outcome_terms.specs.Stores.{Follows, Settles, store};
+ghost use Rattle.outcome_terms.specs.Stores.{Follows, Settles};
 
 use command_io::bytes_under;
 use lic_register::Register;
@@ -27,7 +27,7 @@ pub fn word_under<S: Shelf>(
 ) -> Result<Word, Refusal>
     requires { IsTrue (is_name name.now) }
     ensures word { Follows (word_under name.now register.now.bits)
-        (store S.holds S.counts shelf.old) (store S.holds S.counts shelf.new) result }
+        (S.store shelf.old) (S.store shelf.new) result }
     ensures least { IfOk result (λ word. 1 ≤ length word) }
     ensures most { IfOk result (λ word. length word ≤ 2 ^ register.now.bits) }
     ensures symbols { IfOk result (HasSymbolsBelow (2 ^ register.now.bits)) }

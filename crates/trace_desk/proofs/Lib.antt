@@ -1,5 +1,5 @@
 pub mod Books
 pub mod Known
-pub mod Findings
+pub mod InOrder
 pub mod Tracing
 pub mod CurveCosts

@@ -5,7 +5,7 @@ ghost use Rattle.desk_terms.specs.Roll.{IsRoll, Roll, roll_of};
 
 use lic_register::{Licensee, Register};
 use rs_code::Message;
-use steps::{Ledger, Steps};
+use steps::{Looks, Steps};
 
 /// A book of licensees, which contracts see as a roll. A licensee is found by the message alone.
 pub trait Book {
@@ -24,7 +24,7 @@ pub trait Book {
         ensures kept { IsRoll (roll self.now) };
 
     /// The serial and the licensee with this message; `None` where nobody has it. This is one look, and takes no memory.
-    fn by_message<Q: Ledger>(
+    fn by_message<Q: Looks>(
         &self,
         message: Message,
         looks: &mut Steps<Q>,
@@ -52,7 +52,7 @@ impl Book for Register {
         self.dimension()
     }
 
-    fn by_message<Q: Ledger>(
+    fn by_message<Q: Looks>(
         &self,
         message: Message,
         looks: &mut Steps<Q>,

@@ -5,7 +5,7 @@ ghost use Rattle.algebra.specs.Lists.{IsListOf, coefficients};
 ghost use Rattle.algebra.specs.Series.{product};
 
 use crate::poly::Poly;
-use gf2m::{Field, Ledger, Steps};
+use gf2m::{Field, Products, Steps};
 use lists::Memory;
 use std::alloc::{AllocError, Global};
 
@@ -24,7 +24,7 @@ impl<F: Field> Poly<F> {
     }
 
     /// The product.
-    pub fn mul<P: Ledger>(
+    pub fn mul<P: Products>(
         &self,
         alloc: Global,
         other: &Poly<F>,
@@ -55,7 +55,12 @@ pub(crate) fn zeros<F: Field>(alloc: Global, len: usize) -> Result<Vec<F>, Alloc
 }
 
 /// Turns zeros into the product of two lists of coefficients.
-fn add_product<F: Field, P: Ledger>(target: &mut [F], left: &[F], right: &[F], prods: &mut Steps<P>)
+fn add_product<F: Field, P: Products>(
+    target: &mut [F],
+    left: &[F],
+    right: &[F],
+    prods: &mut Steps<P>,
+)
     requires room { length target.old ≡ length left.now + length right.now }
     requires zeros { (k : ℕ) → coefficients F.ring target.old k ≡ F.ring.nil }
     ensures value { (k : ℕ) →
@@ -70,7 +75,7 @@ fn add_product<F: Field, P: Ledger>(target: &mut [F], left: &[F], right: &[F], p
 
 /// Adds the factor times x^at times one polynomial to another, both as lists of coefficients with the lowest first.
 /// There is no coefficient past the end of `target`, so it has to be long enough.
-pub fn add_shifted<F: Field, P: Ledger>(
+pub fn add_shifted<F: Field, P: Products>(
     target: &mut [F],
     source: &[F],
     factor: F,

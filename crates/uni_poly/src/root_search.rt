@@ -4,13 +4,13 @@ ghost use Rattle.std.specs.Prelude.{◌≡◌, ◌+◌, ◌*◌, ◌<◌, ◌≤
 ghost use Rattle.uni_poly.specs.Roots.{IsRootList};
 
 use crate::poly::Poly;
-use gf2m::{Elements, Field, Ledger, Steps};
+use gf2m::{Elements, Field, Products, Steps};
 use lists::{Items, Memory};
 use std::alloc::{AllocError, Global};
 
 impl<F: Field> Poly<F> {
     /// All roots, each once, in ascending order of their numbers. Of the zero polynomial all elements are roots.
-    pub fn roots<P: Ledger>(
+    pub fn roots<P: Products>(
         &self,
         alloc: Global,
         prods: &mut Steps<P>,

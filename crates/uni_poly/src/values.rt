@@ -7,13 +7,13 @@ ghost use Rattle.uni_poly.specs.Division.{IsDivision};
 
 use crate::arithmetic::zeros;
 use crate::poly::Poly;
-use gf2m::{Field, Ledger, Steps};
+use gf2m::{Field, Products, Steps};
 use lists::Memory;
 use std::alloc::Global;
 
 impl<F: Field> Poly<F> {
     /// The value at this element.
-    pub fn eval<P: Ledger>(&self, at: F, prods: &mut Steps<P>) -> F
+    pub fn eval<P: Products>(&self, at: F, prods: &mut Steps<P>) -> F
         ensures value { result ≡ value F.ring (length self.now) (coefficients F.ring self.now) at }
         ensures products { prods.new ≤ prods.old + length self.now }
     {
@@ -26,7 +26,7 @@ impl<F: Field> Poly<F> {
     }
 
     /// The quotient by x + a, and the rest.
-    pub fn div_linear<P: Ledger>(
+    pub fn div_linear<P: Products>(
         &self,
         alloc: Global,
         a: F,

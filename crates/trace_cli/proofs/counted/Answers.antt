@@ -3,7 +3,7 @@ use Rattle.outcome_terms.specs.declared.status.Status.{Status}
 use Rattle.outcome_terms.specs.declared.status.Status.TheVariants as status
 use Rattle.outcome_terms.specs.declared.refusal.Refusal.{Refusal}
 use Rattle.outcome_terms.specs.Statuses.{refusal_status}
-use Rattle.outcome_terms.specs.Stores.{Store}
+use Rattle.records.specs.Stores.{Store}
 use Rattle.outcome_terms.specs.Call.{IsRefused}
 use Rattle.trace_cli.proofs.counted.Goals as goal
 

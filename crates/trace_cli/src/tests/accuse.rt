@@ -53,13 +53,13 @@ const SMALL: [(&str, &str, &str); 10] = [
 /// Makes this call over a register and a word, and compares what it puts out.
 fn answers(
     rt: &impl Abort,
-    alloc: Global,
+    host: &HostRuntime,
     register: &str,
     word: &str,
     line: &str,
     wanted: &str,
 ) -> Result<(), Memory> {
-    let got = answer(alloc, register, word, line)?;
+    let got = answer(host, register, word, line)?;
     same(rt, got.as_str(), wanted, word);
     Ok(())
 }
@@ -69,7 +69,7 @@ fn small_words(rt: HostRuntime) -> Result<(), Fail> {
     let alloc = rt.alloc();
     let twenty = register(alloc, 4, 2, 20)?;
     for (word, line, wanted) in SMALL {
-        answers(&rt, alloc, twenty.as_str(), word, line, wanted)?;
+        answers(&rt, &rt, twenty.as_str(), word, line, wanted)?;
     }
     Ok(())
 }
@@ -94,7 +94,7 @@ fn nobody_else_and_nothing_there(rt: HostRuntime) -> Result<(), Fail> {
     let alloc = rt.alloc();
     let five = register(alloc, 4, 2, 5)?;
     for (line, wanted) in FIVE {
-        answers(&rt, alloc, five.as_str(), "5,5", line, wanted)?;
+        answers(&rt, &rt, five.as_str(), "5,5", line, wanted)?;
     }
     Ok(())
 }
@@ -166,7 +166,7 @@ fn two_hundred_places(rt: HostRuntime) -> Result<(), Fail> {
     let wanted = three_accused(alloc)?;
     answers(
         &rt,
-        alloc,
+        &rt,
         many.as_str(),
         word.as_str(),
         "accuse reg w 3",
@@ -205,7 +205,7 @@ fn five_thousand_licensees(rt: HostRuntime) -> Result<(), Fail> {
     let wanted = whole_copy(alloc)?;
     answers(
         &rt,
-        alloc,
+        &rt,
         many.as_str(),
         word.as_str(),
         "accuse reg w 3",
@@ -239,7 +239,7 @@ fn failures_of_the_shelf(rt: HostRuntime) -> Result<(), Fail> {
     let twenty = register(alloc, 4, 2, 20)?;
     for (number, wanted) in FAILING_CALLS {
         let mut shelf = failing(alloc, twenty.as_str(), number)?;
-        says(&rt, alloc, &mut shelf, "accuse reg w 1", wanted)?;
+        says(&rt, &rt, &mut shelf, "accuse reg w 1", wanted)?;
     }
     Ok(())
 }
@@ -259,7 +259,7 @@ fn failures_of_the_output(rt: HostRuntime) -> Result<(), Fail> {
     let twenty = register(alloc, 4, 2, 20)?;
     for (word, wanted) in FAILING_PUTS {
         let mut shelf = shelf(alloc, twenty.as_str(), word)?;
-        put_fails(&rt, alloc, &mut shelf, "accuse reg w 3", wanted)?;
+        put_fails(&rt, &rt, &mut shelf, "accuse reg w 3", wanted)?;
     }
     Ok(())
 }
@@ -272,6 +272,6 @@ fn nineteen_places(rt: HostRuntime) -> Result<(), Fail> {
     let word = "0,0,0,0,0,0,0,0,0,0,0,0,0,0,0,0,0,0,0";
     let wanted =
         "0: {\"accused\":[{\"name\":\"lic0\",\"places\":[0,1,2,3,4,5,6,7,8,9,10,11,12,13,14,15,16,17,18],\"serial\":0}],\"bound\":3,\"readable\":19}\n";
-    answers(&rt, alloc, twenty.as_str(), word, "accuse reg w 3", wanted)?;
+    answers(&rt, &rt, twenty.as_str(), word, "accuse reg w 3", wanted)?;
     Ok(())
 }

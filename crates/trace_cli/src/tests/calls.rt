@@ -12,39 +12,41 @@ use std::alloc::Global;
 use std::marker::Brand;
 use std::process::Abort;
 use std::sync::ledger::Blank;
-use steps::{Ledger, Steps};
+use steps::{Ledger, LookLedger, ProductLedger, Steps};
 use texts::is_name;
 
 /// What a call put out, with its status in front.
-pub fn call(alloc: Global, shelf: &mut MemShelf, line: &str) -> Result<String, Memory> {
+pub fn call(host: &HostRuntime, shelf: &mut MemShelf, line: &str) -> Result<String, Memory> {
+    let alloc = host.alloc();
     let mut out = MemSink::new(alloc);
-    call_into(alloc, shelf, &mut out, line)
+    call_into(host, shelf, &mut out, line)
 }
 
 /// The same over this output.
 pub fn call_into(
-    alloc: Global,
+    host: &HostRuntime,
     shelf: &mut MemShelf,
     out: &mut MemSink,
     line: &str,
 ) -> Result<String, Memory> {
-    call_with(alloc, shelf, out, line, &Linear)
+    call_with(host, shelf, out, line, &Linear)
 }
 
 /// The same with this way to find curves.
 pub fn call_with<I: Interpolate>(
-    alloc: Global,
+    host: &HostRuntime,
     shelf: &mut MemShelf,
     out: &mut MemSink,
     line: &str,
     by: &I,
 ) -> Result<String, Memory> {
+    let alloc = host.alloc();
     let mut words = Vec::new(alloc);
     for word in line.split_whitespace() {
         words.push(String::from_str(alloc, word)?)?;
     }
     let status = counted::<I, Brand, Brand>(
-        alloc,
+        host,
         words.as_slice(),
         shelf,
         out,
@@ -59,7 +61,7 @@ pub fn call_with<I: Interpolate>(
 
 /// The status of a call, whose products and looks are counted from nothing.
 fn counted<I: Interpolate, P: Ledger, Q: Ledger>(
-    alloc: Global,
+    host: &HostRuntime,
     words: &[String],
     shelf: &mut MemShelf,
     out: &mut MemSink,
@@ -74,8 +76,9 @@ fn counted<I: Interpolate, P: Ledger, Q: Ledger>(
     requires looks_parts { looks.parts ≡ Q.parts }
     requires looks_some { 0 < Q.parts }
 {
-    let mut prods = Steps::<P>::new(prods);
-    let mut looks = Steps::<Q>::new(looks);
+    let alloc = host.alloc();
+    let mut prods = Steps::<ProductLedger<P>>::new(host, prods);
+    let mut looks = Steps::<LookLedger<Q>>::new(host, looks);
     run(alloc, words, shelf, out, by, &mut prods, &mut looks).code()
 }
 
@@ -98,11 +101,17 @@ pub fn shelf(alloc: Global, register: &str, word: &str) -> Result<MemShelf, Memo
 
 /// What a call that only reads put out over this register and this word, with its status in front. Curves are found in both
 /// ways, and where they don't lead to the same, both answers stand there.
-pub fn answer(alloc: Global, register: &str, word: &str, line: &str) -> Result<String, Memory> {
+pub fn answer(
+    host: &HostRuntime,
+    register: &str,
+    word: &str,
+    line: &str,
+) -> Result<String, Memory> {
+    let alloc = host.alloc();
     let mut shelf = shelf(alloc, register, word)?;
-    let by_algebra = call(alloc, &mut shelf, line)?;
+    let by_algebra = call(host, &mut shelf, line)?;
     let mut out = MemSink::new(alloc);
-    let by_steps = call_with(alloc, &mut shelf, &mut out, line, &Koetter)?;
+    let by_steps = call_with(host, &mut shelf, &mut out, line, &Koetter)?;
     if by_algebra.as_str() == by_steps.as_str() {
         return Ok(by_steps);
     }
@@ -129,12 +138,12 @@ pub fn same(rt: &impl Abort, got: &str, wanted: &str, place: &str) {
 /// Makes this call, and compares what it puts out.
 pub fn says(
     rt: &impl Abort,
-    alloc: Global,
+    host: &HostRuntime,
     shelf: &mut MemShelf,
     line: &str,
     wanted: &str,
 ) -> Result<(), Memory> {
-    let got = call(alloc, shelf, line)?;
+    let got = call(host, shelf, line)?;
     same(rt, got.as_str(), wanted, line);
     Ok(())
 }
@@ -142,13 +151,13 @@ pub fn says(
 /// Makes one call after another, and compares what each puts out.
 pub fn each_says(
     rt: &impl Abort,
-    alloc: Global,
+    host: &HostRuntime,
     shelf: &mut MemShelf,
     calls: &[(&str, &str)],
 ) -> Result<(), Memory> {
     for one in calls {
         let (line, wanted) = *one;
-        says(rt, alloc, shelf, line, wanted)?;
+        says(rt, host, shelf, line, wanted)?;
     }
     Ok(())
 }
@@ -169,13 +178,14 @@ pub fn holds(
 /// The same with the iterative way to find curves.
 pub fn says_by_steps(
     rt: &impl Abort,
-    alloc: Global,
+    host: &HostRuntime,
     shelf: &mut MemShelf,
     line: &str,
     wanted: &str,
 ) -> Result<(), Memory> {
+    let alloc = host.alloc();
     let mut out = MemSink::new(alloc);
-    let got = call_with(alloc, shelf, &mut out, line, &Koetter)?;
+    let got = call_with(host, shelf, &mut out, line, &Koetter)?;
     same(rt, got.as_str(), wanted, line);
     Ok(())
 }
@@ -183,14 +193,15 @@ pub fn says_by_steps(
 /// Makes this call with an output whose first put fails, and compares what stands there.
 pub fn put_fails(
     rt: &impl Abort,
-    alloc: Global,
+    host: &HostRuntime,
     shelf: &mut MemShelf,
     line: &str,
     wanted: &str,
 ) -> Result<(), Memory> {
+    let alloc = host.alloc();
     let mut out = MemSink::new(alloc);
     out.fail(1)?;
-    let got = call_into(alloc, shelf, &mut out, line)?;
+    let got = call_into(host, shelf, &mut out, line)?;
     same(rt, got.as_str(), wanted, line);
     Ok(())
 }

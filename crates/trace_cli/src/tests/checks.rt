@@ -4,12 +4,11 @@ use super::calls::{each_says, put_fails, says};
 use super::films::{FILM_COPY, THREE_COLLUDERS, playlist, titled_film};
 use lists::Memory;
 use shelf_io::MemShelf;
-use std::alloc::Global;
 use std::test::Fail;
 
 /// The film with its title, its copy and this report.
-fn reported(alloc: Global, report: &str) -> Result<MemShelf, Memory> {
-    let mut shelf = titled_film(alloc)?;
+fn reported(host: &HostRuntime, report: &str) -> Result<MemShelf, Memory> {
+    let mut shelf = titled_film(host)?;
     shelf.hold("rep", report.as_bytes())?;
     Ok(shelf)
 }
@@ -88,13 +87,12 @@ const REPORTS: [(&str, &str); 17] = [
 
 #[test]
 fn reports_are_judged(rt: HostRuntime) -> Result<(), Fail> {
-    let alloc = rt.alloc();
-    let mut shelf = titled_film(alloc)?;
+    let mut shelf = titled_film(&rt)?;
     for (report, wanted) in REPORTS {
         shelf.hold("rep", report.as_bytes())?;
         says(
             &rt,
-            alloc,
+            &rt,
             &mut shelf,
             "check film.title reg copy rep",
             wanted,
@@ -113,14 +111,13 @@ const ENDS: [(usize, &str); 3] = [
 /// What `trace` puts out is right, also without its line feed, and is no report before its last brace.
 #[test]
 fn what_trace_puts_out_is_right(rt: HostRuntime) -> Result<(), Fail> {
-    let alloc = rt.alloc();
     let report = right_report();
     assert_eq!(rt; report.len(), 178);
     for (end, wanted) in ENDS {
-        let mut shelf = reported(alloc, report.get(..end).unwrap_or(""))?;
+        let mut shelf = reported(&rt, report.get(..end).unwrap_or(""))?;
         says(
             &rt,
-            alloc,
+            &rt,
             &mut shelf,
             "check film.title reg copy rep",
             wanted,
@@ -157,11 +154,11 @@ const SHORT_COPY: [&str; 9] = [
 #[test]
 fn checks_are_refused(rt: HostRuntime) -> Result<(), Fail> {
     let alloc = rt.alloc();
-    let mut shelf = reported(alloc, right_report())?;
+    let mut shelf = reported(&rt, right_report())?;
     shelf.hold("wide", b"register 1\nm 4\nk 3\na 1\nb 0\nlic0\n")?;
     let short = playlist(alloc, &SHORT_COPY)?;
     shelf.hold("short", short.as_bytes())?;
-    each_says(&rt, alloc, &mut shelf, &CALLS)?;
+    each_says(&rt, &rt, &mut shelf, &CALLS)?;
     Ok(())
 }
 
@@ -184,13 +181,13 @@ fn name_read(number: usize) -> &'static str {
 fn each_call_of_check_fails(rt: HostRuntime) -> Result<(), Fail> {
     let alloc = rt.alloc();
     for number in 0usize..32 {
-        let mut shelf = reported(alloc, right_report())?;
+        let mut shelf = reported(&rt, right_report())?;
         shelf.fail(326 + number as u64)?;
         let name = name_read(number);
         let wanted = format!(in alloc; "4: error 4 {name}\n")?;
         says(
             &rt,
-            alloc,
+            &rt,
             &mut shelf,
             "check film.title reg copy rep",
             wanted.as_str(),
@@ -202,11 +199,10 @@ fn each_call_of_check_fails(rt: HostRuntime) -> Result<(), Fail> {
 /// The output fails: half of the answer stands there.
 #[test]
 fn the_put_of_right_fails(rt: HostRuntime) -> Result<(), Fail> {
-    let alloc = rt.alloc();
-    let mut shelf = reported(alloc, right_report())?;
+    let mut shelf = reported(&rt, right_report())?;
     put_fails(
         &rt,
-        alloc,
+        &rt,
         &mut shelf,
         "check film.title reg copy rep",
         "6: rig",

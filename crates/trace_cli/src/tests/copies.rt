@@ -13,15 +13,16 @@ use std::test::Fail;
 /// Compares what `trace` puts out on a copy of these segments.
 fn traced(
     rt: &impl Abort,
-    alloc: Global,
+    host: &HostRuntime,
     shelf: &mut MemShelf,
     names: &[&str],
     bound: u32,
     wanted: &str,
 ) -> Result<(), Memory> {
+    let alloc = host.alloc();
     shelf.hold("copy", playlist(alloc, names)?.as_bytes())?;
     let line = format!(in alloc; "trace film.title reg copy {bound}")?;
-    says_by_steps(rt, alloc, shelf, line.as_str(), wanted)
+    says_by_steps(rt, host, shelf, line.as_str(), wanted)
 }
 
 /// The film's copy with one segment more at its end.
@@ -50,12 +51,12 @@ const ANOTHER: [(&str, u32, &str); 6] = [
 #[test]
 fn one_segment_more(rt: HostRuntime) -> Result<(), Fail> {
     let alloc = rt.alloc();
-    let mut shelf = titled_film(alloc)?;
+    let mut shelf = titled_film(&rt)?;
     hold_itself(&mut shelf, "other.ts")?;
     shelf.hold("v/4-0f.ts", b"v/4-00.ts")?;
     for (name, bound, wanted) in ANOTHER {
         let names = with_another(alloc, name)?;
-        traced(&rt, alloc, &mut shelf, names.as_slice(), bound, wanted)?;
+        traced(&rt, &rt, &mut shelf, names.as_slice(), bound, wanted)?;
     }
     Ok(())
 }
@@ -64,14 +65,14 @@ fn one_segment_more(rt: HostRuntime) -> Result<(), Fail> {
 #[test]
 fn reversed_and_renamed(rt: HostRuntime) -> Result<(), Fail> {
     let alloc = rt.alloc();
-    let mut shelf = titled_film(alloc)?;
+    let mut shelf = titled_film(&rt)?;
     let mut names = Vec::from_slice(alloc, &FILM_COPY)?;
     names.reverse();
-    traced(&rt, alloc, &mut shelf, names.as_slice(), 3, THREE_COLLUDERS)?;
+    traced(&rt, &rt, &mut shelf, names.as_slice(), 3, THREE_COLLUDERS)?;
     shelf.hold("found-on-the-net.ts", b"v/9-01.ts")?;
     names.push("found-on-the-net.ts")?;
     let _removed = names.remove(2);
-    traced(&rt, alloc, &mut shelf, names.as_slice(), 3, THREE_COLLUDERS)?;
+    traced(&rt, &rt, &mut shelf, names.as_slice(), 3, THREE_COLLUDERS)?;
     Ok(())
 }
 
@@ -92,12 +93,11 @@ const CALLS: [(&str, &str); 11] = [
 
 #[test]
 fn traces_are_refused(rt: HostRuntime) -> Result<(), Fail> {
-    let alloc = rt.alloc();
-    let mut shelf = titled_film(alloc)?;
+    let mut shelf = titled_film(&rt)?;
     shelf.hold("wide", b"register 1\nm 4\nk 3\na 1\nb 0\nlic0\n")?;
     shelf.hold("bad", b"register 1\nm 9\nk 2\na 1\nb 0\nlic0\n")?;
     shelf.hold("cut", b"title 1\nname film\nm 4\n")?;
-    each_says(&rt, alloc, &mut shelf, &CALLS)?;
+    each_says(&rt, &rt, &mut shelf, &CALLS)?;
     Ok(())
 }
 
@@ -119,23 +119,23 @@ fn name_read(number: usize) -> &'static str {
 fn each_call_of_trace_fails(rt: HostRuntime) -> Result<(), Fail> {
     let alloc = rt.alloc();
     for number in 0usize..30 {
-        let mut shelf = titled_film(alloc)?;
+        let mut shelf = titled_film(&rt)?;
         shelf.fail(326 + number as u64)?;
         let name = name_read(number);
         let wanted = format!(in alloc; "4: error 4 {name}\n")?;
         says(
             &rt,
-            alloc,
+            &rt,
             &mut shelf,
             "trace film.title reg copy 3",
             wanted.as_str(),
         )?;
     }
-    let mut shelf = titled_film(alloc)?;
+    let mut shelf = titled_film(&rt)?;
     shelf.fail(356)?;
     says(
         &rt,
-        alloc,
+        &rt,
         &mut shelf,
         "trace film.title reg copy 3",
         THREE_COLLUDERS,
@@ -144,8 +144,9 @@ fn each_call_of_trace_fails(rt: HostRuntime) -> Result<(), Fail> {
 }
 
 /// The film with a long segment before its copy, whose third part fails or not.
-fn with_a_long_segment(alloc: Global, fails: bool) -> Result<MemShelf, Memory> {
-    let mut shelf = titled_film(alloc)?;
+fn with_a_long_segment(host: &HostRuntime, fails: bool) -> Result<MemShelf, Memory> {
+    let alloc = host.alloc();
+    let mut shelf = titled_film(host)?;
     let mut zeros = Vec::new(alloc);
     zeros.resize(200_000, 0)?;
     shelf.hold("big.ts", zeros.as_slice())?;
@@ -163,16 +164,9 @@ const LONG_SEGMENT: [(bool, &str); 2] = [(true, "4: error 4 big.ts\n"), (false, 
 
 #[test]
 fn a_long_segment_is_read_by_parts(rt: HostRuntime) -> Result<(), Fail> {
-    let alloc = rt.alloc();
     for (fails, wanted) in LONG_SEGMENT {
-        let mut shelf = with_a_long_segment(alloc, fails)?;
-        says(
-            &rt,
-            alloc,
-            &mut shelf,
-            "trace film.title reg copy 3",
-            wanted,
-        )?;
+        let mut shelf = with_a_long_segment(&rt, fails)?;
+        says(&rt, &rt, &mut shelf, "trace film.title reg copy 3", wanted)?;
     }
     Ok(())
 }
@@ -180,11 +174,10 @@ fn a_long_segment_is_read_by_parts(rt: HostRuntime) -> Result<(), Fail> {
 /// The output fails: half of the report stands there.
 #[test]
 fn a_put_fails(rt: HostRuntime) -> Result<(), Fail> {
-    let alloc = rt.alloc();
-    let mut shelf = titled_film(alloc)?;
+    let mut shelf = titled_film(&rt)?;
     let half =
         "6: {\"accused\":[{\"name\":\"lic0\",\"places\":[0,4,5,6],\"serial\":0},{\"name\":\"lic1\",\"places\":[1,7,8,";
-    put_fails(&rt, alloc, &mut shelf, "trace film.title reg copy 3", half)?;
+    put_fails(&rt, &rt, &mut shelf, "trace film.title reg copy 3", half)?;
     Ok(())
 }
 
@@ -192,7 +185,7 @@ fn a_put_fails(rt: HostRuntime) -> Result<(), Fail> {
 #[test]
 fn damaged_titles(rt: HostRuntime) -> Result<(), Fail> {
     let alloc = rt.alloc();
-    let mut shelf = titled_pair(alloc)?;
+    let mut shelf = titled_pair(&rt)?;
     let said = held(alloc, &mut shelf, "pair.title")?;
     let text = said.as_str().strip_prefix("held: ").unwrap_or("");
     assert_eq!(rt; text.len(), 2233);
@@ -208,7 +201,7 @@ fn damaged_titles(rt: HostRuntime) -> Result<(), Fail> {
         let wanted = format!(in alloc; "10: error 10 {line} form\n")?;
         says(
             &rt,
-            alloc,
+            &rt,
             &mut shelf,
             "trace cut reg source 1",
             wanted.as_str(),
@@ -246,11 +239,11 @@ fn first_lines(alloc: Global, text: &str, count: usize) -> Result<String, Memory
 #[test]
 fn damaged_copies(rt: HostRuntime) -> Result<(), Fail> {
     let alloc = rt.alloc();
-    let mut shelf = titled_pair(alloc)?;
+    let mut shelf = titled_pair(&rt)?;
     for (count, wanted) in CUTS {
         let cut = first_lines(alloc, PAIR_SOURCE, count)?;
         shelf.hold("cut", cut.as_bytes())?;
-        says(&rt, alloc, &mut shelf, "trace pair.title reg cut 1", wanted)?;
+        says(&rt, &rt, &mut shelf, "trace pair.title reg cut 1", wanted)?;
     }
     Ok(())
 }

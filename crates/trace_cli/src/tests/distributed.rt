@@ -77,8 +77,8 @@ const LINES: [(usize, &str); 6] = [
 fn a_cinema_gets_its_playlist_and_is_found(rt: HostRuntime) -> Result<(), Fail> {
     let alloc = rt.alloc();
     let mut shelf = distributed(alloc)?;
-    each_says(&rt, alloc, &mut shelf, &CALLS)?;
-    says_by_steps(&rt, alloc, &mut shelf, "trace title reg copy 3", WHOLE_COPY)?;
+    each_says(&rt, &rt, &mut shelf, &CALLS)?;
+    says_by_steps(&rt, &rt, &mut shelf, "trace title reg copy 3", WHOLE_COPY)?;
     let said = held(alloc, &mut shelf, "copy")?;
     let text = said.as_str().strip_prefix("held: ").unwrap_or("");
     for (number, wanted) in LINES {

@@ -77,9 +77,10 @@ pub fn pair(alloc: Global) -> Result<MemShelf, Memory> {
 }
 
 /// The pair with its title.
-pub fn titled_pair(alloc: Global) -> Result<MemShelf, Memory> {
+pub fn titled_pair(host: &HostRuntime) -> Result<MemShelf, Memory> {
+    let alloc = host.alloc();
     let mut shelf = pair(alloc)?;
-    let _answer = call(alloc, &mut shelf, "title design source pair.title")?;
+    let _answer = call(host, &mut shelf, "title design source pair.title")?;
     Ok(shelf)
 }
 
@@ -121,9 +122,10 @@ pub fn film(alloc: Global) -> Result<MemShelf, Memory> {
 }
 
 /// The film with its title and the copy that three licensees mixed.
-pub fn titled_film(alloc: Global) -> Result<MemShelf, Memory> {
+pub fn titled_film(host: &HostRuntime) -> Result<MemShelf, Memory> {
+    let alloc = host.alloc();
     let mut shelf = film(alloc)?;
-    let _answer = call(alloc, &mut shelf, "title design source film.title")?;
+    let _answer = call(host, &mut shelf, "title design source film.title")?;
     shelf.hold("copy", playlist(alloc, &FILM_COPY)?.as_bytes())?;
     Ok(shelf)
 }

@@ -36,19 +36,19 @@ fn licensees_get_their_variants(rt: HostRuntime) -> Result<(), Fail> {
     shelf.hold("source", source.as_bytes())?;
     says(
         &rt,
-        alloc,
+        &rt,
         &mut shelf,
         "title design source pair.title",
         "0: ",
     )?;
     for (name, first, last) in LICENSEES {
         let line = format!(in alloc; "package pair.title reg {name} out")?;
-        says(&rt, alloc, &mut shelf, line.as_str(), "0: ")?;
+        says(&rt, &rt, &mut shelf, line.as_str(), "0: ")?;
         let wanted = pair_playlist(alloc, (first, last), "6.000000", "6", "")?;
         holds(&rt, alloc, &mut shelf, "out", wanted.as_str())?;
     }
     let unknown = "package pair.title reg nobody out2";
-    says(&rt, alloc, &mut shelf, unknown, "19: error 19 nobody\n")?;
+    says(&rt, &rt, &mut shelf, unknown, "19: error 19 nobody\n")?;
     holds(&rt, alloc, &mut shelf, "out2", "not there")?;
     Ok(())
 }
@@ -82,7 +82,7 @@ fn durations_and_breaks_are_kept(rt: HostRuntime) -> Result<(), Fail> {
         let mut shelf = pair(alloc)?;
         let source = PAIR_SOURCE.replace(alloc, "#EXTINF:6.000000,\ns1.ts\n", lines)?;
         shelf.hold("source", source.as_bytes())?;
-        each_says(&rt, alloc, &mut shelf, &MADE_AND_PACKAGED)?;
+        each_says(&rt, &rt, &mut shelf, &MADE_AND_PACKAGED)?;
         let wanted = pair_playlist(alloc, ("v/0-00.ts", "v/1-01.ts"), second, target, third)?;
         holds(&rt, alloc, &mut shelf, "out", wanted.as_str())?;
     }
@@ -114,7 +114,7 @@ const TITLE_LINES: [(usize, &str); 10] = [
 #[test]
 fn a_title_has_its_lines(rt: HostRuntime) -> Result<(), Fail> {
     let alloc = rt.alloc();
-    let mut shelf = titled_pair(alloc)?;
+    let mut shelf = titled_pair(&rt)?;
     let said = held(alloc, &mut shelf, "pair.title")?;
     let text = said.as_str().strip_prefix("held: ").unwrap_or("");
     for (number, wanted) in TITLE_LINES {
@@ -151,7 +151,7 @@ fn sources_are_refused(rt: HostRuntime) -> Result<(), Fail> {
     let mut shelf = pair(alloc)?;
     for (source, wanted) in SOURCES {
         shelf.hold("source", source.as_bytes())?;
-        says(&rt, alloc, &mut shelf, "title design source out", wanted)?;
+        says(&rt, &rt, &mut shelf, "title design source out", wanted)?;
     }
     Ok(())
 }
@@ -176,7 +176,7 @@ fn designs_are_weighed(rt: HostRuntime) -> Result<(), Fail> {
     let mut shelf = film(alloc)?;
     for (k, c, marked, wanted) in DESIGNS {
         shelf.hold("design", film_design(alloc, k, c, marked)?.as_bytes())?;
-        says(&rt, alloc, &mut shelf, "title design source out", wanted)?;
+        says(&rt, &rt, &mut shelf, "title design source out", wanted)?;
     }
     Ok(())
 }
@@ -188,9 +188,9 @@ fn equal_variants_are_told(rt: HostRuntime) -> Result<(), Fail> {
     let mut shelf = film(alloc)?;
     shelf.hold("v/3-0a.ts", b"v/2-05.ts")?;
     let line = "title design source out";
-    says(&rt, alloc, &mut shelf, line, "20: error 20 2 5 3 10\n")?;
+    says(&rt, &rt, &mut shelf, line, "20: error 20 2 5 3 10\n")?;
     shelf.hold("v/3-0a.ts", b"v/2-05.tz")?;
-    says(&rt, alloc, &mut shelf, line, "0: ")?;
+    says(&rt, &rt, &mut shelf, line, "0: ")?;
     Ok(())
 }
 
@@ -219,9 +219,9 @@ const CALLS: [(&str, &str); 12] = [
 #[test]
 fn calls_are_refused(rt: HostRuntime) -> Result<(), Fail> {
     let alloc = rt.alloc();
-    let mut shelf = titled_pair(alloc)?;
+    let mut shelf = titled_pair(&rt)?;
     shelf.hold("wide", b"register 1\nm 4\nk 3\na 1\nb 0\nlic0\n")?;
-    each_says(&rt, alloc, &mut shelf, &CALLS)?;
+    each_says(&rt, &rt, &mut shelf, &CALLS)?;
     holds(&rt, alloc, &mut shelf, "out", "not there")?;
     Ok(())
 }
@@ -260,7 +260,7 @@ fn each_call_of_title_fails(rt: HostRuntime) -> Result<(), Fail> {
         let wanted = title_fails(alloc, number)?;
         says(
             &rt,
-            alloc,
+            &rt,
             &mut shelf,
             "title design source out",
             wanted.as_str(),
@@ -281,13 +281,12 @@ const PACKAGE_FAILS: [(u64, &str); 6] = [
 
 #[test]
 fn each_call_of_package_fails(rt: HostRuntime) -> Result<(), Fail> {
-    let alloc = rt.alloc();
     for (number, wanted) in PACKAGE_FAILS {
-        let mut shelf = titled_pair(alloc)?;
+        let mut shelf = titled_pair(&rt)?;
         shelf.fail(number)?;
         says(
             &rt,
-            alloc,
+            &rt,
             &mut shelf,
             "package pair.title reg lic16 out",
             wanted,

@@ -72,15 +72,16 @@ fn full_and_cut(alloc: Global) -> Result<MemShelf, Memory> {
 fn calls_are_answered(rt: HostRuntime) -> Result<(), Fail> {
     let alloc = rt.alloc();
     let mut shelf = full_and_cut(alloc)?;
-    each_says(&rt, alloc, &mut shelf, &CALLS)?;
+    each_says(&rt, &rt, &mut shelf, &CALLS)?;
     Ok(())
 }
 
 /// The shelf after these calls.
-fn after_calls(alloc: Global) -> Result<MemShelf, Memory> {
+fn after_calls(host: &HostRuntime) -> Result<MemShelf, Memory> {
+    let alloc = host.alloc();
     let mut shelf = full_and_cut(alloc)?;
     for (line, _) in CALLS {
-        let _answer = call(alloc, &mut shelf, line)?;
+        let _answer = call(host, &mut shelf, line)?;
     }
     Ok(shelf)
 }
@@ -88,7 +89,7 @@ fn after_calls(alloc: Global) -> Result<MemShelf, Memory> {
 #[test]
 fn registers_are_written(rt: HostRuntime) -> Result<(), Fail> {
     let alloc = rt.alloc();
-    let mut shelf = after_calls(alloc)?;
+    let mut shelf = after_calls(&rt)?;
     for (name, wanted) in BLOBS {
         holds(&rt, alloc, &mut shelf, name, wanted)?;
     }
@@ -123,7 +124,7 @@ fn each_call_of_a_register_fails(rt: HostRuntime) -> Result<(), Fail> {
     let alloc = rt.alloc();
     for (line, number, wanted) in FAILING_CALLS {
         let mut shelf = failing(alloc, number)?;
-        says(&rt, alloc, &mut shelf, line, wanted)?;
+        says(&rt, &rt, &mut shelf, line, wanted)?;
     }
     Ok(())
 }
@@ -134,13 +135,7 @@ fn a_write_fails(rt: HostRuntime) -> Result<(), Fail> {
     let alloc = rt.alloc();
     let mut shelf = failing(alloc, 3)?;
     let stays = "held: register 1\nm 4\nk 2\na 1\nb 0\nlic1\n";
-    says(
-        &rt,
-        alloc,
-        &mut shelf,
-        "enrol r0 lic0 r1",
-        "5: error 5 r1\n",
-    )?;
+    says(&rt, &rt, &mut shelf, "enrol r0 lic0 r1", "5: error 5 r1\n")?;
     holds(&rt, alloc, &mut shelf, "r0", stays)?;
     Ok(())
 }

@@ -18,9 +18,9 @@ fn samples_are_summed_up(rt: HostRuntime) -> Result<(), Fail> {
     let alloc = rt.alloc();
     let mut shelf = MemShelf::new(alloc);
     shelf.fail(1)?;
-    says(&rt, alloc, &mut shelf, "sample 7", SEVENTH)?;
-    says_by_steps(&rt, alloc, &mut shelf, "sample 7", SEVENTH)?;
-    says(&rt, alloc, &mut shelf, "sample 0", NOUGHT)?;
+    says(&rt, &rt, &mut shelf, "sample 7", SEVENTH)?;
+    says_by_steps(&rt, &rt, &mut shelf, "sample 7", SEVENTH)?;
+    says(&rt, &rt, &mut shelf, "sample 0", NOUGHT)?;
     Ok(())
 }
 
@@ -39,7 +39,7 @@ fn words_are_no_number(rt: HostRuntime) -> Result<(), Fail> {
     let alloc = rt.alloc();
     let mut shelf = MemShelf::new(alloc);
     for line in NO_NUMBERS {
-        says(&rt, alloc, &mut shelf, line, "2: error 2 words\n")?;
+        says(&rt, &rt, &mut shelf, line, "2: error 2 words\n")?;
     }
     Ok(())
 }
@@ -50,6 +50,6 @@ fn the_put_of_a_sample_fails(rt: HostRuntime) -> Result<(), Fail> {
     let alloc = rt.alloc();
     let mut shelf = MemShelf::new(alloc);
     let half = "6: sample 7 licensees 1000 places 64 readable 30 bo";
-    put_fails(&rt, alloc, &mut shelf, "sample 7", half)?;
+    put_fails(&rt, &rt, &mut shelf, "sample 7", half)?;
     Ok(())
 }

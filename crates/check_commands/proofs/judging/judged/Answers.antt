@@ -1,4 +1,4 @@
-use Rattle.copy_commands.proofs.Demanded.{some_places, not_more, small_symbols, bound_allowed}
+use Rattle.copy_io.proofs.MetDemands.{some_places, not_more, small_symbols, bound_allowed}
 use Rattle.check_commands.proofs.judging.judged.Goals as goal
 
 pub judged_word-requires : goal.judged_word-requires

@@ -1,6 +1,7 @@
-use Rattle.list_decode.specs.Points.{ArePoints}
+use Rattle.std.proofs.Common.{◌≡◌, map, take}
+use Rattle.list_decode.specs.Points.{numbers_of}
 use Rattle.list_decode.proofs.points.points.Given as goal
 
--- The points of the first places.
-abbrev pub invariant-places : goal.invariant-places
-invariant-places g l = ArePoints g.F.Field.ring g.F.Field.number g.F.Field.BITS l.word l.place l.points.items
+-- The points of the first pairs.
+abbrev pub invariant-pairs : goal.invariant-pairs
+invariant-pairs g l = map (numbers_of g.F.Field.number) l.points.items ≡ take l.i l.pairs

@@ -5,8 +5,8 @@ use Rattle.desk_terms.specs.Roll.{message_at, roll_of}
 use Rattle.report_check.proofs.RowWalks.{message_found}
 use Rattle.report_check.proofs.missing.meets.Goals as goal
 
-pub returns : goal.returns
-returns g c = λ word rows slots.
+pub returns-clause-accused : goal.returns-clause-accused
+returns-clause-accused g c = λ word rows slots.
     let m = c.args.register.now.bits in
     let k = c.args.register.now.dimension in
     let u = c.unwrap-message.result in

@@ -9,11 +9,11 @@ invariant-parts g l =
     let taker = g.T.Taker in
     record {
       short : l.from ≤ l.limit;
-      same : shelf.holds l.shelf ≡ shelf.holds l.fn.shelf;
-      pouring : IsPouring (taker.stands l.fn.taker) (taker.stands l.taker) (shelf.holds l.fn.shelf) l.name l.from;
+      same : (shelf.store l.shelf).told ≡ (shelf.store l.fn.shelf).told;
+      pouring : IsPouring (taker.stands l.fn.taker) (taker.stands l.taker) (shelf.store l.fn.shelf) (shelf.store l.shelf) l.name l.from;
       taken : taker.taken l.taker ≡ taker.taken l.fn.taker + l.from;
       spent : taker.spent l.taker ≡ true → taker.spent l.fn.taker ≡ true;
-      causes : ReadCauses (shelf.counts l.fn.shelf) (shelf.counts l.shelf) l.name false false;
+      causes : ReadCauses (shelf.store l.fn.shelf).counts (shelf.store l.shelf).counts l.name false false;
     }
 
 abbrev pub decreases-parts : goal.decreases-parts

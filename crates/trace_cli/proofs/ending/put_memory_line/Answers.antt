@@ -8,4 +8,4 @@ use Rattle.trace_cli.proofs.ending.put_memory_line.Goals as goal
 
 pub returns-clause-out : goal.returns-clause-out
 unfolding line_of digits
-returns-clause-out g c = prefix_told (g.O.Sink.written c.args.out.now) (g.O.Sink.written c.put.new.self) MEMORY_LINE.now memory_line _ refl c.put.ensures.bytes
+returns-clause-out g c = prefix_told (g.O.Sink.output c.args.out.now).written (g.O.Sink.output c.put.new.self).written MEMORY_LINE.now memory_line _ refl c.put.ensures.bytes

@@ -3,7 +3,7 @@ use Rattle.code_terms.specs.Words.{readable}
 use Rattle.desk_terms.specs.Bounds.{look_bound, tracing_bound}
 use Rattle.list_decode.specs.Answers.{CostsAtMost}
 use Rattle.outcome_terms.proofs.Spending.{alone}
-use Rattle.trace_commands.specs.Costs.{curve_costs}
+use Rattle.trace_costs.specs.Costs.{curve_costs}
 use Rattle.trace_commands.proofs.desk_call.answer_over.Goals as goal
 
 pub returns-clause-steps : goal.returns-clause-steps

@@ -8,7 +8,7 @@ messages-preserved g c =
     let one : (c.messages.i + 1) * (c.args.code.now.places * c.args.code.now.dimension) ≡ c.messages.i * (c.args.code.now.places * c.args.code.now.dimension) + c.args.code.now.places * c.args.code.now.dimension =
     omega arith in
     record {
-      known = known_step roll c.args.word.now c.args.messages.now c.messages.i c.index-messages-i.result c.look_up.new.accused.items (omega arith) c.index-messages-i.is
+      known = known_step roll c.args.pairs.now c.args.messages.now c.messages.i c.index-messages-i.result c.look_up.new.accused.items (omega arith) c.index-messages-i.is
           (c.in_ok-look_up.ensures.known (take c.messages.i c.args.messages.now) c.messages.invariant.known
           (not_before c.args.messages.now c.messages.i c.index-messages-i.result c.requires.apart (omega arith) c.index-messages-i.is));
       products = omega (arith, c.messages.invariant.products, c.look_up.ensures.products);

@@ -1,2 +1,0 @@
-pub mod Demanded
-pub mod Wants

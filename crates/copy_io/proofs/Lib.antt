@@ -1,0 +1,2 @@
+pub mod MetDemands
+pub mod Wants

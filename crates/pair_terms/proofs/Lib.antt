@@ -1,0 +1,2 @@
+pub mod WordPairs
+pub mod Told

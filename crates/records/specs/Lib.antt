@@ -1,0 +1,5 @@
+pub mod Events
+pub mod Rows
+pub mod Parts
+pub mod Stores
+pub mod Agreement
